@@ -158,18 +158,18 @@ owner_kept kept number found is =
     ∙ ap (λ (o : Option KeptFrame). option_and_then (λ (it : KeptFrame). it.owner) o) (sym is)
 
 bytes_by : (found : Option KeptFrame)
-    → option_map_or (λ (frame : Frame). frame.bytes) (Some (option_map_or frame_kept found empty_frame)) [] ≡ option_map_or (λ (it : KeptFrame). bytes_kept it.bytes) found (replicate page_size 0)
+    → option_map_or (λ (frame : Frame). frame.bytes) (Some (option_map_or frame_kept found empty_frame)) [] ≡ option_map_or (λ (it : KeptFrame). bytes_kept it.bytes.items) found (replicate page_size 0)
 bytes_by None = refl
 bytes_by (Some it) = refl
 
 pub bytes_there : (kept : KeptFrames) (number : ℕ) (found : Option KeptFrame) → number < kept.count → found ≡ kept_at kept number
-    → bytes_of (frames_in kept) number ≡ option_map_or (λ (it : KeptFrame). bytes_kept it.bytes) found (replicate page_size 0)
+    → bytes_of (frames_in kept) number ≡ option_map_or (λ (it : KeptFrame). bytes_kept it.bytes.items) found (replicate page_size 0)
 bytes_there kept number found below is =
     let test : nat_lt number kept.count ≡ true = below_is number kept.count below in
     let own : found ≡ get nat_eq kept.named number = is ∙ ap (λ (b : Bool). if b then get nat_eq kept.named number else None) test in
     ap (λ (o : Option Frame). option_map_or (λ (frame : Frame). frame.bytes) o []) (frame_below (frame_of kept) kept.count number below)
     ∙ bytes_by (get nat_eq kept.named number)
-    ∙ ap (λ (o : Option KeptFrame). option_map_or (λ (it : KeptFrame). bytes_kept it.bytes) o (replicate page_size 0)) (sym own)
+    ∙ ap (λ (o : Option KeptFrame). option_map_or (λ (it : KeptFrame). bytes_kept it.bytes.items) o (replicate page_size 0)) (sym own)
 
 pub bytes_beyond : (kept : KeptFrames) (number : ℕ) → kept.count ≤ number → bytes_of (frames_in kept) number ≡ []
 bytes_beyond kept number beyond =

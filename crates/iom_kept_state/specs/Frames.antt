@@ -15,7 +15,7 @@ bytes_kept (first ∷ rest) = first ∷ rest
 
 -- the frame that is kept so
 abbrev pub frame_kept : KeptFrame → Frame
-frame_kept kept = record { owner = kept.owner; bytes = bytes_kept kept.bytes }
+frame_kept kept = record { owner = kept.owner; bytes = bytes_kept kept.bytes.items }
 
 -- the frame of this number: one of zeros that belongs to nobody, where nothing is kept of it
 abbrev pub frame_of : KeptFrames → ℕ → Frame

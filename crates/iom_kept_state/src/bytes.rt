@@ -2,15 +2,8 @@
 ghost use Rattle.std.specs.Prelude.{◌≡◌, ◌<◌, ◌≤◌, ◌+◌, ◌^◌, ◌↔◌, IfOk, OnOk, IsTrue, take, drop, length, replicate, slice_range};
 ghost use Rattle.iom_kept_state.specs.Words.{with_bytes, page_size};
 
-use iom_base::{FRAME_SIZE, Sequence};
-use std::alloc::{AllocError, Global};
-
-/// The bytes of a frame of zeros.
-pub(crate) fn zeros(alloc: Global) -> Result<Sequence<u8>, AllocError>
-    ensures { IfOk result (λ bytes. bytes ≡ replicate page_size 0) }
-{
-    Ok(Sequence::from_vec(vec![in alloc; 0u8; FRAME_SIZE]?))
-}
+use iom_base::FRAME_SIZE;
+use std::alloc::AllocError;
 
 /// The first so many of the bytes, or all.
 fn first_bytes(bytes: &[u8], count: u64) -> &[u8]
@@ -59,45 +52,32 @@ pub(crate) fn zeros_lent() -> &'static [u8]
 }
 
 /// The bytes, where those from the offset on are replaced.
-fn with_bytes(
-    alloc: Global,
-    bytes: &[u8],
-    offset: u64,
-    replacement: &[u8],
-) -> Result<Sequence<u8>, AllocError>
-    ensures { IfOk result (λ new. new ≡ with_bytes bytes.now offset replacement.now) }
+fn with_bytes(bytes: &Vec<u8>, offset: u64, replacement: &[u8]) -> Result<Vec<u8>, AllocError>
+    ensures { IfOk result (λ new. new.items ≡ with_bytes bytes.now.items offset replacement.now) }
 {
-    let mut items = Vec::new(alloc);
-    items.extend_from_slice(first_bytes(bytes, offset))?;
+    let later = later_bytes(later_bytes(bytes, offset), replacement.len() as u64);
+    let mut items = Vec::from_slice(*bytes.allocator(), first_bytes(bytes, offset))?;
     items.extend_from_slice(replacement)?;
-    items.extend_from_slice(later_bytes(later_bytes(bytes, offset), replacement.len() as u64))?;
-    Ok(Sequence::from_vec(items))
+    items.extend_from_slice(later)?;
+    Ok(items)
 }
 
 /// The bytes stand in all of these, from the offset on, where they fit there.
-fn put_within(all: &mut Sequence<u8>, offset: usize, bytes: &[u8])
-    requires fit { offset + length bytes.now ≤ length all.old }
-    requires small { offset + length bytes.now < 2 ^ 64 }
+fn put_within(all: &mut [u8], offset: usize, bytes: &[u8])
+    requires { offset + length bytes.now ≤ length all.old }
     ensures { all.new ≡ with_bytes all.old offset bytes.now }
 {
-    for index in 0..bytes.len() {
-        *all.item_mut(offset + index) = bytes[index];
-    }
+    all[offset..offset + bytes.len()].copy_from_slice(bytes);
 }
 
 /// Those from the offset on are replaced by the bytes: in place, where they fit there.
-pub(crate) fn put(
-    alloc: Global,
-    all: &mut Sequence<u8>,
-    offset: u64,
-    bytes: &[u8],
-) -> Result<(), AllocError>
-    ensures { OnOk result (all.new ≡ with_bytes all.old offset bytes.now) }
+pub(crate) fn put(all: &mut Vec<u8>, offset: u64, bytes: &[u8]) -> Result<(), AllocError>
+    ensures { OnOk result (all.new.items ≡ with_bytes all.old.items offset bytes.now) }
 {
-    if ends_within(offset, bytes.len(), all.as_slice().len()) {
+    if ends_within(offset, bytes.len(), all.len()) {
         put_within(all, offset as usize, bytes);
     } else {
-        *all = with_bytes(alloc, all.as_slice(), offset, bytes)?;
+        *all = with_bytes(all, offset, bytes)?;
     }
     Ok(())
 }

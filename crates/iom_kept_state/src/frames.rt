@@ -1,17 +1,17 @@
 //! Frames as they are kept.
 ghost use Rattle.std.specs.Prelude.{◌≤◌, ◌^◌};
 
-use crate::bytes::{put, stand_in, zeros, zeros_lent};
+use crate::bytes::{put, stand_in, zeros_lent};
 use indexmap::IndexMap;
-use iom_base::{Owner, Sequence};
+use iom_base::Owner;
 use std::alloc::{AllocError, Global};
 
 /// A frame of which something is kept.
 #[derive(Drop)]
 pub struct KeptFrame {
-    pub owner: Option<Owner>,
+    pub(crate) owner: Option<Owner>,
     /// None stand for zeros alone.
-    pub bytes: Sequence<u8>,
+    pub(crate) bytes: Vec<u8>,
 }
 
 impl KeptFrame {
@@ -24,38 +24,37 @@ impl KeptFrame {
     {
         KeptFrame {
             owner: None,
-            bytes: Sequence::new(alloc),
+            bytes: Vec::new(alloc),
         }
     }
 
     /// Its bytes.
     fn bytes(&self) -> &[u8]
-        ensures { result.now ≡ bytes_kept self.now.bytes }
+        ensures { result.now ≡ bytes_kept self.now.bytes.items }
     {
         match self.bytes.as_slice() {
             [] => zeros_lent(),
-            [_, ..] => self.bytes.as_slice(),
+            bytes => bytes,
         }
     }
 
     /// Its bytes are there, be they zeros alone.
-    fn fill(&mut self, alloc: Global) -> Result<(), AllocError>
+    fn fill(&mut self) -> Result<(), AllocError>
         ensures owner { self.new.owner ≡ self.old.owner }
-        ensures bytes { OnOk result (self.new.bytes ≡ bytes_kept self.old.bytes) }
+        ensures bytes { OnOk result (self.new.bytes.items ≡ bytes_kept self.old.bytes.items) }
     {
-        if self.bytes.as_slice().is_empty() {
-            self.bytes = zeros(alloc)?;
+        if self.bytes.is_empty() {
+            self.bytes = Vec::from_slice(*self.bytes.allocator(), zeros_lent())?;
         }
         Ok(())
     }
 
     /// The bytes stand in it from the offset on.
-    fn store(&mut self, alloc: Global, offset: u64, bytes: &[u8]) -> Result<(), AllocError>
-        ensures { OnOk result (frame_kept self.new ≡ record (frame_kept self.old) { bytes = with_bytes (bytes_kept self.old.bytes) offset bytes.now }) }
+    fn store(&mut self, offset: u64, bytes: &[u8]) -> Result<(), AllocError>
+        ensures { OnOk result (frame_kept self.new ≡ record (frame_kept self.old) { bytes = with_bytes (bytes_kept self.old.bytes.items) offset bytes.now }) }
     {
-        self.fill(alloc)?;
-        put(alloc, &mut self.bytes, offset, bytes)?;
-        Ok(())
+        self.fill()?;
+        put(&mut self.bytes, offset, bytes)
     }
 }
 
@@ -179,7 +178,7 @@ impl KeptFrames {
     {
         let alloc = *self.named.allocator();
         let frame = self.named.entry(number)?.or_insert(KeptFrame::new(alloc));
-        frame.store(alloc, offset, bytes)
+        frame.store(offset, bytes)
     }
 
     /// The bytes stand in the frame from the offset on, where there is such a frame.
