@@ -6,11 +6,7 @@ use Rattle.iom_base.specs.Bytes.{with_bytes}
 use Rattle.iom_base.specs.Sizes.{page_size}
 use Rattle.iom_kept_state.specs.Frames.{bytes_kept}
 
--- no bytes stand for zeros, and some for themselves
-pub none_kept : (bytes : List ℕ) → length bytes ≡ 0 → bytes_kept bytes ≡ replicate page_size 0
-none_kept [] none = refl
-none_kept (first ∷ rest) some = absurd (omega (arith, some))
-
+-- bytes stand for themselves, where there are some
 pub some_kept : (bytes : List ℕ) → 0 < length bytes → bytes_kept bytes ≡ bytes
 some_kept [] none = absurd (omega (arith, none))
 some_kept (first ∷ rest) some = refl

@@ -8,7 +8,6 @@
 //! one takes no more room than a low one.
 #![tactic(auto)]
 
-mod alike;
 mod bytes;
 mod frames;
 mod free;
