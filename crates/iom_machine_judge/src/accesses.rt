@@ -16,13 +16,11 @@ pub(crate) fn access_with(
 ) -> Result<Access, AllocError>
     ensures { IfOk result (λ access. access ≡ record { address = address; len = len; kind = kind; bytes = bytes.now }) }
 {
-    let mut items = Vec::new(alloc);
-    items.extend_from_slice(bytes)?;
     Ok(Access {
         address,
         len,
         kind,
-        bytes: Sequence::from_vec(items),
+        bytes: Sequence::from_vec(Vec::from_slice(alloc, bytes)?),
     })
 }
 

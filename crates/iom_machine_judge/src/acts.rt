@@ -7,11 +7,12 @@ use crate::accesses::access_of;
 use crate::block_devices::{insert, may_set, take_step};
 use crate::commits::make;
 use crate::devices::place_of;
+use crate::line::Decided;
 use crate::{requests, through_cache, translated};
 use iom_base::{DeviceId, DeviceKind, Refusal};
 use iom_kept_state::KeptState;
 use iom_machine::{Choice, Event, Outcome};
-use std::alloc::{AllocError, Global};
+use std::alloc::Global;
 
 /// Whether a device of this kind can do what the event asks.
 fn is_able(event: &Event, kind: DeviceKind) -> bool
@@ -41,7 +42,7 @@ fn act_at(
     event: &Event,
     outcome: &Outcome,
     choice: &Choice,
-) -> Result<bool, AllocError>
+) -> Decided
     requires { place < length kept.old.devices }
     ensures { IfOk result (λ may. (device : Device) → slice_get kept.old.devices place ≡ Some device → StandsAt kept.old.devices device.id place
         → Decides may kept.old kept.new (λ before after. ActStep choice.now event.now device before outcome.now after)) }
@@ -97,7 +98,7 @@ pub(crate) fn judge_act(
     event: &Event,
     outcome: &Outcome,
     choice: &Choice,
-) -> Result<bool, AllocError>
+) -> Decided
     ensures { IfOk result (λ may. Decides may kept.old kept.new (λ before after.
         Acts (able_to event.now) (λ device. ActStep choice.now event.now device before outcome.now after) before id outcome.now after)) }
 {

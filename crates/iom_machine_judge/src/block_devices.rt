@@ -5,6 +5,7 @@ ghost use Rattle.iom_machine_judge.specs.Words.{HasBytes, MayWant, state_of, Dec
 use crate::accesses::access_with;
 use crate::devices::give_disk;
 use crate::disks::{is_among, without_disk};
+use crate::line::Decided;
 use crate::requests::{self, is_forwarded, is_within_page};
 use crate::through_cache;
 use iom_base::{Access, AccessKind, Refusal};
@@ -40,7 +41,7 @@ pub(crate) fn insert(
     place: usize,
     disk: u64,
     outcome: &Outcome,
-) -> Result<bool, AllocError>
+) -> Decided
     requires { place < length kept.old.devices }
     ensures { IfOk result (λ may. (device : Device) → slice_get kept.old.devices place ≡ Some device → StandsAt kept.old.devices device.id place
         → Decides may kept.old kept.new (λ before after. Inserts disk before device outcome.now after)) }
@@ -113,7 +114,7 @@ fn begin(
     access: &Access,
     frame: u64,
     outcome: &Outcome,
-) -> Result<bool, AllocError>
+) -> Decided
     requires { place < length kept.old.devices }
     ensures { IfOk result (λ may. (device : Device) → slice_get kept.old.devices place ≡ Some device → StandsAt kept.old.devices device.id place
         → Decides may kept.old kept.new (λ before after. Begins before device access.now frame outcome.now after)) }
@@ -138,7 +139,7 @@ pub(crate) fn take_step(
     place: usize,
     outcome: &Outcome,
     choice: &Choice,
-) -> Result<bool, AllocError>
+) -> Decided
     requires { place < length kept.old.devices }
     ensures { IfOk result (λ may. (device : Device) → slice_get kept.old.devices place ≡ Some device → StandsAt kept.old.devices device.id place
         → Decides may kept.old kept.new (λ before after. TakesStep before device choice.now.access choice.now.frame outcome.now after)) }

@@ -1,17 +1,18 @@
 // The driver's calls.
 ghost use Rattle.std.specs.Prelude.{◌≡◌, ◌↔◌, ◌+◌, ◌++◌, ◌⊎◌, false, All, IfOk, IsTrue, None};
-ghost use Rattle.iom_machine_judge.specs.Words.{History, IsFree, MayRefusePlug, MayRefuseAttach, MayRefuseGrant, MayFindNoPlace, Plugs, Attaches, Detaches, Grants, Releases, IsLastPending, MayTakeTicket, IsPastOf, is_confirmed_in, state_of, Decides};
+ghost use Rattle.iom_machine_judge.specs.Words.{History, IsFree, MayRefusePlug, MayRefuseAttach, MayRefuseGrant, MayFindNoPlace, Plugs, Attaches, Detaches, Grants, Releases, Quarantines, Revives, IsLastPending, MayTakeTicket, IsPastOf, is_confirmed_in, state_of, Decides};
 
-use crate::devices::{place_of, set_attachment, start_leaving};
+use crate::devices::{attach_again, place_of, set_attachment, start_leaving, under_ticket};
 use crate::disks::without_disk;
+use crate::line::Decided;
 use crate::reasons::{
-    attach_refusal, detach_refusal, grant_refusal, most_tables, plug_refusal, refuses,
-    release_refusal,
+    attach_refusal, detach_refusal, grant_refusal, most_tables, plug_refusal, quarantine_refusal,
+    refuses, release_refusal, revive_refusal,
 };
 use iom_base::{DeviceId, GrantRights, Mode, NewDevice, Owner, Refusal, Sequence};
 use iom_kept_state::KeptState;
 use iom_machine::{Attachment, Device, Outcome};
-use std::alloc::{AllocError, Global};
+use std::alloc::Global;
 
 fn may_refuse_plug(why: Refusal) -> bool
     ensures { IsTrue result ↔ MayRefusePlug why }
@@ -42,14 +43,14 @@ pub fn may_refuse_grant(kept: &KeptState, id: DeviceId, frame: u64, why: Refusal
     }
 }
 
-pub(crate) fn may_find_no_place(why: Refusal) -> bool
+fn may_find_no_place(why: Refusal) -> bool
     ensures { IsTrue result ↔ MayFindNoPlace why }
 {
     matches!(why, Refusal::QueueFull | Refusal::NumbersUsedUp)
 }
 
 /// Whether this ticket is given next, where nothing is refused.
-pub(crate) fn may_give(kept: &KeptState, first: Option<Refusal>, ticket: u32) -> bool
+fn may_give(kept: &KeptState, first: Option<Refusal>, ticket: u32) -> bool
     ensures { IsTrue result ↔ ((first ≡ None) × (ticket ≡ kept.now.grants.given + 1)) }
 {
     first.is_none() && u64::from(ticket) == u64::from(kept.grants.given) + 1
@@ -80,7 +81,7 @@ pub(crate) fn judge_plug(
     id: DeviceId,
     what: NewDevice,
     outcome: &Outcome,
-) -> Result<bool, AllocError>
+) -> Decided
     ensures { IfOk result (λ may. Decides may kept.old kept.new (λ before after. Plugs before id what outcome.now after)) }
 {
     let first = plug_refusal(kept, id, what);
@@ -123,7 +124,7 @@ pub(crate) fn judge_attach(
     outcome: &Outcome,
     pages: &[u64],
     taken: &[u64],
-) -> Result<bool, AllocError>
+) -> Decided
     ensures { IfOk result (λ may. Decides may kept.old kept.new (λ before after. Attaches pages.now taken.now before id mode ats outcome.now after)) }
 {
     let first = attach_refusal(kept, id, ats);
@@ -176,7 +177,7 @@ pub(crate) fn judge_grant(
     rights: GrantRights,
     outcome: &Outcome,
     taken: &[u64],
-) -> Result<bool, AllocError>
+) -> Decided
     ensures { IfOk result (λ may. Decides may kept.old kept.new (λ before after. Grants taken.now before id page frame rights outcome.now after)) }
 {
     let first = grant_refusal(kept, id, page, frame);
@@ -200,7 +201,7 @@ pub(crate) fn judge_release(
     id: DeviceId,
     page: u64,
     outcome: &Outcome,
-) -> Result<bool, AllocError>
+) -> Decided
     ensures { IfOk result (λ may. Decides may kept.old kept.new (λ before after. Releases before id page outcome.now after)) }
 {
     let first = release_refusal(kept, id, page);
@@ -214,5 +215,48 @@ pub(crate) fn judge_release(
         }
         Outcome::Refused(why) => Ok(refuses(first, may_find_no_place(*why), *why)),
         _ => Ok(false),
+    }
+}
+
+/// Whether a quarantine of a device that doesn't answer may come so; the next state is then kept.
+pub(crate) fn judge_quarantine(kept: &mut KeptState, id: DeviceId, outcome: &Outcome) -> Decided
+    ensures { IfOk result (λ may. Decides may kept.old kept.new (λ before after. Quarantines before id outcome.now after)) }
+{
+    let first = quarantine_refusal(kept, id);
+    match outcome {
+        Outcome::Ticket(ticket) => {
+            if !may_give(kept, first, *ticket) {
+                return Ok(false);
+            }
+            let Some(place) = place_of(kept.devices.as_slice(), id) else {
+                return Ok(false);
+            };
+            kept.grants.release_all(id, *ticket)?;
+            under_ticket(&mut kept.devices, place, *ticket);
+            Ok(true)
+        }
+        Outcome::Refused(why) => Ok(refuses(first, may_find_no_place(*why), *why)),
+        _ => Ok(false),
+    }
+}
+
+/// Whether a revival may come so; the next state is then kept.
+pub(crate) fn judge_revive(kept: &mut KeptState, id: DeviceId, outcome: &Outcome) -> bool
+    ensures { Decides result kept.old kept.new (λ before after. Revives before id outcome.now after) }
+{
+    let first = revive_refusal(kept, id);
+    match outcome {
+        Outcome::Done => {
+            if first.is_some() {
+                return false;
+            }
+            let Some(place) = place_of(kept.devices.as_slice(), id) else {
+                return false;
+            };
+            attach_again(&mut kept.devices, place);
+            true
+        }
+        Outcome::Refused(why) => refuses(first, false, *why),
+        _ => false,
     }
 }

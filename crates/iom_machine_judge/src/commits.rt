@@ -3,10 +3,10 @@ ghost use Rattle.std.specs.Prelude.{◌≡◌, ◌↔◌, ◌<◌, IfOk, IsTrue,
 ghost use Rattle.iom_machine_judge.specs.Words.{option_copied, History, May, Device, StandsAt, GivesBytes, MakesWrite, Makes, IsPastOf, state_of, Decides};
 
 use crate::devices::take_oldest;
+use crate::line::Decided;
 use iom_base::{AcceptedAccess, Access, AccessKind, DeviceId, PAGE_SIZE};
 use iom_kept_state::KeptState;
 use iom_machine::{Device, Outcome};
-use std::alloc::AllocError;
 
 fn is_of_kind(access: &Access, kind: AccessKind) -> bool
     ensures { IsTrue result ↔ (access.now.kind ≡ kind) }
@@ -45,11 +45,7 @@ fn oldest(device: &Device) -> Option<&AcceptedAccess>
 }
 
 /// Whether the oldest access in flight of the device at the place may be made so; the next state is then kept.
-pub(crate) fn make(
-    kept: &mut KeptState,
-    place: usize,
-    outcome: &Outcome,
-) -> Result<bool, AllocError>
+pub(crate) fn make(kept: &mut KeptState, place: usize, outcome: &Outcome) -> Decided
     requires { place < length kept.old.devices }
     ensures { IfOk result (λ may. (device : Device) → slice_get kept.old.devices place ≡ Some device → StandsAt kept.old.devices device.id place
         → Decides may kept.old kept.new (λ before after. Makes before device outcome.now after)) }

@@ -5,12 +5,14 @@ ghost use Rattle.iom_machine_judge.specs.Verdicts.{IsFoundOf, RunsAreChosen};
 ghost use Rattle.iom_machine_judge.specs.Deciding.{CallStep, UnchangedStep};
 
 use crate::acts::judge_act;
-use crate::calls::{judge_attach, judge_detach, judge_grant, judge_plug, judge_release};
-use crate::line::Line;
+use crate::calls::{
+    judge_attach, judge_detach, judge_grant, judge_plug, judge_quarantine, judge_release,
+    judge_revive,
+};
+use crate::line::{Decided, Line};
 use crate::polls::judge_poll;
 use crate::processor::{judge_free, judge_peek, judge_poke};
 use crate::questions::judge_deliver;
-use crate::recovery::{judge_quarantine, judge_revive};
 use iom_base::Refusal;
 use iom_kept_state::KeptState;
 use iom_machine::{Choice, Event, Outcome};
@@ -23,7 +25,7 @@ fn judge_call(
     event: &Event,
     outcome: &Outcome,
     choice: &Choice,
-) -> Result<bool, AllocError>
+) -> Decided
     ensures { IfOk result (λ may. Decides may kept.old kept.new (λ before after. CallStep choice.now before event.now outcome.now after)) }
 {
     let (pages, taken) = (choice.directory.as_slice(), choice.taken.as_slice());

@@ -1,6 +1,6 @@
-// Where a device stands, and how it changes.
-ghost use Rattle.std.specs.Prelude.{◌≡◌, ◌<◌, ◌==◌, true, false, [], ◌∷◌, ◌++◌, length, find, slice_get, slice_set, MatchOption, OnOk, Some, None, drop};
-ghost use Rattle.iom_machine_judge.specs.Words.{option_copied, StandsAt, leaving_under, quarantined_under, attached_again, Device};
+// Where a device stands, how it changes, and which ids the device directory can't name.
+ghost use Rattle.std.specs.Prelude.{◌≡◌, ◌<◌, ◌==◌, true, false, [], ◌∷◌, ◌++◌, length, find, slice_get, slice_set, MatchOption, OnOk, Some, None, drop, nat_le};
+ghost use Rattle.iom_machine_judge.specs.Words.{option_copied, StandsAt, leaving_under, quarantined_under, attached_again, id_limit, Device};
 
 use iom_base::{AcceptedAccess, Access, DeviceId, Sequence};
 use iom_kept_state::KeptState;
@@ -123,4 +123,24 @@ pub(crate) fn take_oldest(devices: &mut Sequence<Device>, place: usize) -> Accep
 {
     let device = devices.item_mut(place);
     device.in_flight.pop_front()
+}
+
+/// The first id above those that a device directory of so many levels names.
+fn first_id_above(levels: u8) -> u32
+    ensures { result ≡ id_limit levels }
+{
+    if levels == 1 {
+        1 << 7
+    } else if levels == 2 {
+        1 << 16
+    } else {
+        1 << 24
+    }
+}
+
+/// Whether the device directory can't name the id.
+pub(crate) fn too_wide(kept: &KeptState, id: DeviceId) -> bool
+    ensures { result ≡ nat_le (id_limit kept.now.levels) id }
+{
+    id >= first_id_above(kept.levels)
 }

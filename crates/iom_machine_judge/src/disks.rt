@@ -47,11 +47,7 @@ pub(crate) fn without_disk(
     ensures { IfOk result (λ left. left ≡ without_disk named disks.now) }
 {
     match named {
-        None => {
-            let mut items = Vec::new(alloc);
-            items.extend_from_slice(disks)?;
-            Ok(Sequence::from_vec(items))
-        }
+        None => Ok(Sequence::from_vec(Vec::from_slice(alloc, disks)?)),
         Some(disk) => others(alloc, disks, disk),
     }
 }

@@ -2,7 +2,7 @@
 //!
 //! [`judge`] decides one step, and [`judge_run`] a list of lines; their contracts are the definitions of
 //! `iom_machine`, said of each past of what is kept (`iom_kept_state`): `decide.rt` goes by the event, and has the calls that
-//! others make. Each further module decides what events of one sort ask: `calls.rt`, `recovery.rt`, `polls.rt` the driver's,
+//! others make. Each further module decides what events of one sort ask: `calls.rt`, `polls.rt` the driver's,
 //! `acts.rt` a device's, by `requests.rt`, `translated.rt`, `through_cache.rt`, `commits.rt` its accesses, `block_devices.rt`
 //! the rest of a block device, `questions.rt` what address translation services add, `processor.rt` the processor's. They look
 //! things up in `devices.rt` and `reasons.rt`. Each is lent what is kept, and answers whether the event may come so: then the
@@ -20,13 +20,11 @@ mod commits;
 mod decide;
 mod devices;
 mod disks;
-mod ids;
 mod line;
 pub mod polls;
 mod processor;
 pub mod questions;
 pub mod reasons;
-mod recovery;
 pub mod requests;
 pub mod through_cache;
 pub mod translated;

@@ -2,10 +2,10 @@
 ghost use Rattle.std.specs.Prelude.{◌≡◌, ◌↔◌, ◌+◌, ◌-◌, ◌<◌, ◌≤◌, ℕ, suc, false, IfOk, IsTrue, All};
 ghost use Rattle.iom_machine_judge.specs.Words.{History, May, confirms, confirmed_from, DeviceMay, AreNextTickets, ArePending, MayConfirm, Polls, MayGiveBack, with_returned, IsPastOf, state_of, Decides};
 
+use crate::line::Decided;
 use iom_base::{AcceptedAccess, DeviceId, PAGE_SIZE};
 use iom_kept_state::{KeptGrants, KeptState};
 use iom_machine::{Choice, Device, Outcome};
-use std::alloc::AllocError;
 
 /// Whether each of the accesses of the device may reach its frame, once the tickets from the first to the last are confirmed.
 fn each_may(
@@ -99,11 +99,7 @@ fn judge_returns(kept: &mut KeptState, returned: &[u64]) -> bool
 }
 
 /// Whether a poll may come so; the next state is then kept.
-pub(crate) fn judge_poll(
-    kept: &mut KeptState,
-    outcome: &Outcome,
-    choice: &Choice,
-) -> Result<bool, AllocError>
+pub(crate) fn judge_poll(kept: &mut KeptState, outcome: &Outcome, choice: &Choice) -> Decided
     ensures { IfOk result (λ may. Decides may kept.old kept.new (λ before after. Polls choice.now.returned before outcome.now after)) }
 {
     match outcome {

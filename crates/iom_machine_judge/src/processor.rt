@@ -2,12 +2,12 @@
 ghost use Rattle.std.specs.Prelude.{◌≡◌, ◌↔◌, IfOk, IsTrue};
 ghost use Rattle.iom_machine_judge.specs.Words.{History, Pokes, ShowsBytes, Peeks, TellsFree, state_of, Decides, DecidesUnchanged};
 
+use crate::line::Decided;
 use crate::reasons::{frame_refusal, poke_refusal, refuses};
 use crate::requests::is_within_page;
 use iom_base::PAGE_SIZE;
 use iom_kept_state::KeptState;
 use iom_machine::Outcome;
-use std::alloc::AllocError;
 
 /// Whether a poke may come so; the next state is then kept.
 pub(crate) fn judge_poke(
@@ -15,7 +15,7 @@ pub(crate) fn judge_poke(
     address: u64,
     bytes: &[u8],
     outcome: &Outcome,
-) -> Result<bool, AllocError>
+) -> Decided
     ensures { IfOk result (λ may. Decides may kept.old kept.new (λ before after. Pokes before address bytes.now outcome.now after)) }
 {
     let fits = is_within_page(address, bytes.len() as u64);

@@ -1,11 +1,10 @@
 // The first refusal that applies.
 ghost use Rattle.std.specs.Prelude.{◌≡◌, ◌↔◌, ◌<◌, ◌^◌, ◌&&◌, ◌||◌, false, not, nat_le, is_some, IsTrue, IsNone, IsSome, MatchOption, None};
-ghost use Rattle.iom_machine_judge.specs.Words.{option_copied, option_map_or, has_cache, Detached, first_that_applies, History, plug_reasons, attach_reasons, detach_reasons, grant_reasons, release_reasons, quarantine_reasons, revive_reasons, frame_reasons};
+ghost use Rattle.iom_machine_judge.specs.Words.{option_copied, option_map_or, has_cache, first_that_applies, History, plug_reasons, attach_reasons, detach_reasons, grant_reasons, release_reasons, quarantine_reasons, revive_reasons, frame_reasons};
 ghost use Rattle.iom_machine_judge.specs.Words.{poke_reasons, attachment_of, is_detached, is_leaving, is_quarantined, is_attached, may_still_reach, table_limit_at, is_held, is_lingering, has_grants, pending_tickets, IsPastOf, held_by, lingering_by, state_of};
 
-use crate::devices::device_with;
+use crate::devices::{device_with, too_wide};
 use crate::disks::is_missing;
-use crate::ids::too_wide;
 use iom_base::{DeviceId, NewDevice, Refusal};
 use iom_kept_state::KeptState;
 use iom_machine::{Attachment, Device};
@@ -14,16 +13,6 @@ fn plugged(device: Option<&Device>) -> bool
     ensures { result ≡ is_some (option_copied device.entry) }
 {
     device.is_some()
-}
-
-/// How the device is attached; detached, where there is none.
-fn attachment(device: Option<&Device>) -> Attachment
-    ensures { result ≡ option_map_or (λ device. device.attachment) (option_copied device.entry) Detached }
-{
-    match device {
-        None => Attachment::Detached,
-        Some(device) => device.attachment,
-    }
 }
 
 fn detached(attachment: Attachment) -> bool
@@ -136,7 +125,7 @@ pub fn attach_refusal(kept: &KeptState, id: DeviceId, ats: bool) -> Option<Refus
     let device = device_with(kept, id);
     first_that_applies(&[
         (!plugged(device), Refusal::NoSuchDevice),
-        (!detached(attachment(device)), Refusal::AlreadyAttached),
+        (!detached(kept.attachment(id)), Refusal::AlreadyAttached),
         (too_wide(kept, id), Refusal::IdTooWide),
         (untrusted(device, ats), Refusal::NotTrusted),
     ])
@@ -146,7 +135,7 @@ pub fn detach_refusal(kept: &KeptState, id: DeviceId) -> Option<Refusal>
     ensures { (h : History) → IsPastOf kept.now.grants h → result ≡ first_that_applies (detach_reasons (state_of kept.now h) id) }
 {
     let device = device_with(kept, id);
-    let attachment = attachment(device);
+    let attachment = kept.attachment(id);
     first_that_applies(&[
         (!plugged(device), Refusal::NoSuchDevice),
         (not_attached(attachment), Refusal::NotAttached),
@@ -160,7 +149,7 @@ pub fn detach_refusal(kept: &KeptState, id: DeviceId) -> Option<Refusal>
 pub(crate) fn most_tables(kept: &KeptState, id: DeviceId) -> usize
     ensures { (h : History) → result ≡ table_limit_at (attachment_of (state_of kept.now h) id) }
 {
-    attachment(device_with(kept, id)).table_limit() as usize
+    kept.attachment(id).table_limit() as usize
 }
 
 pub fn grant_refusal(kept: &KeptState, id: DeviceId, page: u64, frame: u64) -> Option<Refusal>
@@ -169,7 +158,7 @@ pub fn grant_refusal(kept: &KeptState, id: DeviceId, page: u64, frame: u64) -> O
     ensures first { (h : History) → IsPastOf kept.now.grants h → result ≡ first_that_applies (grant_reasons (state_of kept.now h) id page frame) }
 {
     let device = device_with(kept, id);
-    let attachment = attachment(device);
+    let attachment = kept.attachment(id);
     let limit = kept.limits.page_limit(attachment);
     first_that_applies(&[
         (!plugged(device), Refusal::NoSuchDevice),
@@ -187,7 +176,7 @@ pub fn release_refusal(kept: &KeptState, id: DeviceId, page: u64) -> Option<Refu
     ensures first { (h : History) → IsPastOf kept.now.grants h → result ≡ first_that_applies (release_reasons (state_of kept.now h) id page) }
 {
     let device = device_with(kept, id);
-    let attachment = attachment(device);
+    let attachment = kept.attachment(id);
     first_that_applies(&[
         (!plugged(device), Refusal::NoSuchDevice),
         (not_attached(attachment), Refusal::NotAttached),
@@ -201,7 +190,7 @@ pub fn quarantine_refusal(kept: &KeptState, id: DeviceId) -> Option<Refusal>
     ensures { (h : History) → IsPastOf kept.now.grants h → result ≡ first_that_applies (quarantine_reasons (state_of kept.now h) id) }
 {
     let device = device_with(kept, id);
-    let attachment = attachment(device);
+    let attachment = kept.attachment(id);
     first_that_applies(&[
         (!plugged(device), Refusal::NoSuchDevice),
         (not_attached(attachment), Refusal::NotAttached),
@@ -214,7 +203,7 @@ pub fn revive_refusal(kept: &KeptState, id: DeviceId) -> Option<Refusal>
     ensures { (h : History) → IsPastOf kept.now.grants h → result ≡ first_that_applies (revive_reasons (state_of kept.now h) id) }
 {
     let device = device_with(kept, id);
-    let attachment = attachment(device);
+    let attachment = kept.attachment(id);
     first_that_applies(&[
         (!plugged(device), Refusal::NoSuchDevice),
         (not_attached(attachment), Refusal::NotAttached),

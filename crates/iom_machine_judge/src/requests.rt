@@ -3,6 +3,7 @@ ghost use Rattle.std.specs.Prelude.{◌≡◌, ◌↔◌, ◌+◌, ◌<◌, ◌^
 ghost use Rattle.iom_machine_judge.specs.Words.{FitsInPage, allows, Rights, IsPastOf, state_of, Decides, History, Device, IsBusy, IsForwarded, HoldsFor, HoldsNoneFor, LingersFor, MayAccept, MayFault, MayAcceptInOneStage, MayAnswer, state_after, StandsAt};
 
 use crate::devices::accept;
+use crate::line::Decided;
 use crate::under_ticket::{
     accepts_under_ticket, cause_without_context, faults_under_ticket, is_page_fault_of,
     is_page_fault_of_either,
@@ -95,10 +96,7 @@ fn may_accept(kept: &KeptState, device: &Device, access: &Access, frame: u64) ->
             Mode::First(_) | Mode::Second(_) => accepts_in_one_stage(grants, id, access, frame),
             Mode::Both(_) => grants.may(id, access.address / PAGE_SIZE, frame, access.kind),
         },
-        Attachment::Quarantined { ticket, mode, .. } => {
-            accepts_under_ticket(ticket, mode, grants, id, access, frame)
-        }
-        Attachment::Leaving { ticket, mode, .. } => {
+        Attachment::Quarantined { ticket, mode, .. } | Attachment::Leaving { ticket, mode, .. } => {
             accepts_under_ticket(ticket, mode, grants, id, access, frame)
         }
     }
@@ -118,10 +116,7 @@ fn may_fault(kept: &KeptState, device: &Device, access: &Access, cause: Cause) -
             }
             Mode::Both(_) => is_page_fault_of_either(kind, cause),
         },
-        Attachment::Quarantined { ticket, mode, .. } => {
-            faults_under_ticket(ticket, mode, kept, id, access, cause)
-        }
-        Attachment::Leaving { ticket, mode, .. } => {
+        Attachment::Quarantined { ticket, mode, .. } | Attachment::Leaving { ticket, mode, .. } => {
             faults_under_ticket(ticket, mode, kept, id, access, cause)
         }
     }
@@ -186,7 +181,7 @@ pub(crate) fn answer_at(
     access: Access,
     frame: u64,
     outcome: &Outcome,
-) -> Result<bool, AllocError>
+) -> Decided
     requires { place < length kept.old.devices }
     ensures { IfOk result (λ may. (device : Device) → slice_get kept.old.devices place ≡ Some device → StandsAt kept.old.devices device.id place
         → Decides may kept.old kept.new (λ before after.

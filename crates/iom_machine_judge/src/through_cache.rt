@@ -3,6 +3,7 @@ ghost use Rattle.std.specs.Prelude.{◌≡◌, ◌↔◌, ◌<◌, ◌^◌, ℕ,
 ghost use Rattle.iom_machine_judge.specs.Words.{at_frame, IsPastOf, state_of, Decides, History, Accepted, Device, MayHaveCached, MayGoThrough, MayAnswerThroughCache, state_after_cached, StandsAt};
 
 use crate::devices::accept;
+use crate::line::Decided;
 use crate::requests::{holds, is_busy, is_forwarded, is_next, is_within_page, lingers};
 use crate::translated::may_find_no_context;
 use crate::under_ticket::accepts_under_ticket;
@@ -45,10 +46,7 @@ fn may_go_through(kept: &KeptState, device: &Device, access: &Access, frame: u64
             Mode::First(_) | Mode::Second(_) => may_have_cached(grants, id, access, frame),
             Mode::Both(_) => grants.may(id, access.address / PAGE_SIZE, frame, access.kind),
         },
-        Attachment::Quarantined { ticket, mode, .. } => {
-            accepts_under_ticket(ticket, mode, grants, id, access, frame)
-        }
-        Attachment::Leaving { ticket, mode, .. } => {
+        Attachment::Quarantined { ticket, mode, .. } | Attachment::Leaving { ticket, mode, .. } => {
             accepts_under_ticket(ticket, mode, grants, id, access, frame)
         }
     }
@@ -111,7 +109,7 @@ pub(crate) fn answer_at(
     access: Access,
     frame: u64,
     outcome: &Outcome,
-) -> Result<bool, AllocError>
+) -> Decided
     requires { place < length kept.old.devices }
     ensures { IfOk result (λ may. (device : Device) → slice_get kept.old.devices place ≡ Some device → StandsAt kept.old.devices device.id place
         → Decides may kept.old kept.new (λ before after.

@@ -2,7 +2,7 @@
 ghost use Rattle.std.specs.Prelude.{◌≡◌, ◌↔◌, ◌<◌, ◌^◌, IsTrue};
 ghost use Rattle.iom_machine_judge.specs.Words.{IsPastOf, state_of, History, MayAcceptFormerly, MayAcceptUnderTicket, MayFaultUnderTicket, IsPageFaultOf, IsPageFaultOfEither, cause_without_context};
 
-use crate::ids::too_wide;
+use crate::devices::too_wide;
 use crate::requests::{is_same_cause, lingers};
 use iom_base::{Access, AccessKind, Cause, DeviceId, Mode};
 use iom_kept_state::{KeptGrants, KeptState};

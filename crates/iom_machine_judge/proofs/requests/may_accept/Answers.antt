@@ -9,3 +9,9 @@ returns-in-First c = rw c.in-Attached.is (elim c.in-First.is [
 
 pub returns-in-Both : goal.returns-in-Both
 returns-in-Both c = rw (c.in-Attached.is, c.in-Both.is) c.may.ensures.may
+
+pub returns-in-Quarantined : goal.returns-in-Quarantined
+returns-in-Quarantined c = elim c.in-Quarantined.is [
+  | inl (ats, is) ↦ rw is c.accepts_under_ticket.ensures.accepts
+  | inr (ats, is) ↦ rw is c.accepts_under_ticket.ensures.accepts
+]

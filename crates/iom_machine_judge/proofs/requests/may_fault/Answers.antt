@@ -11,3 +11,9 @@ returns-then-is_page_fault_of c =
       | inl (size, is) ↦ rw is (λ h past. ((λ yes. ((c.holds_none.ensures h past).0 yes, rw is at fault)), (λ both. (c.holds_none.ensures h past).1 both.0)))
       | inr (size, is) ↦ rw is (λ h past. ((λ yes. ((c.holds_none.ensures h past).0 yes, rw is at fault)), (λ both. (c.holds_none.ensures h past).1 both.0)))
     ])
+
+pub returns-in-Quarantined : goal.returns-in-Quarantined
+returns-in-Quarantined c = elim c.in-Quarantined.is [
+  | inl (ats, is) ↦ rw is c.faults_under_ticket.ensures
+  | inr (ats, is) ↦ rw is c.faults_under_ticket.ensures
+]

@@ -9,3 +9,9 @@ returns-in-First-clause-goes c = rw c.in-Attached.is (elim c.in-First.is [
 
 pub returns-in-Both-clause-goes : goal.returns-in-Both-clause-goes
 returns-in-Both-clause-goes c = rw (c.in-Attached.is, c.in-Both.is) c.may.ensures.may
+
+pub returns-in-Quarantined-clause-goes : goal.returns-in-Quarantined-clause-goes
+returns-in-Quarantined-clause-goes c = elim c.in-Quarantined.is [
+  | inl (ats, is) ↦ rw is c.accepts_under_ticket.ensures.accepts
+  | inr (ats, is) ↦ rw is c.accepts_under_ticket.ensures.accepts
+]

@@ -8,7 +8,7 @@ use Rattle.iom_kept_state.specs.Frames.{frames_in}
 use Rattle.iom_kept_state.specs.States.{state_of}
 use Rattle.iom_machine_judge.proofs.LeftLemmas.{refused_by, never_so, some_applies}
 use Rattle.iom_machine_judge.proofs.NextLemmas.{given_as}
-use Rattle.iom_machine_judge.proofs.recovery.judge_revive.Goals as goal
+use Rattle.iom_machine_judge.proofs.calls.judge_revive.Goals as goal
 
 pub returns-then-is_some : goal.returns-then-is_some
 returns-then-is_some c = rw c.in-Done.is (

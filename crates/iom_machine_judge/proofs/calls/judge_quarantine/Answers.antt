@@ -10,7 +10,7 @@ use Rattle.iom_kept_state.specs.Frames.{frames_in}
 use Rattle.iom_kept_state.specs.States.{state_of}
 use Rattle.iom_machine_judge.proofs.LeftLemmas.{refused_by}
 use Rattle.iom_machine_judge.proofs.NextLemmas.{given_as}
-use Rattle.iom_machine_judge.proofs.recovery.judge_quarantine.Goals as goal
+use Rattle.iom_machine_judge.proofs.calls.judge_quarantine.Goals as goal
 
 pub returns-then-not-may_give : goal.returns-then-not-may_give
 returns-then-not-may_give c = rw c.in-Ticket.is
