@@ -3,8 +3,8 @@ use Rattle.iom_base.specs.declared.access.Access.{Access}
 use Rattle.iom_judge.proofs.CertificateLemmas.{if_ok}
 use Rattle.iom_judge.proofs.machine.TraceMachine.take_said.Goals as goal
 
-pub returns-in-Step : goal.returns-in-Step
-returns-in-Step c text says = rw c.in-Step.is
+pub returns : goal.returns
+returns c text says = rw c.in-Step.is
     (if_ok c.go_on.result _ _
     (λ went. (
       went.2.0,
