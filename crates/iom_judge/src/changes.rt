@@ -11,7 +11,7 @@ ghost use Rattle.iom_judge.specs.Happenings.{Happening, Came, CameInTurn, IsShar
 
 use crate::choosing::{NOTHING, Reported, Shown, Tables, where_shown};
 use crate::machine::TraceMachine;
-use crate::stop::{Line, Stop};
+use crate::stop::{Judged, Line};
 use iom_base::{DeviceId, GrantRights};
 use iom_machine::{Event, Outcome};
 use iom_trace_lines::{GrantedPages, ReleasedPages};
@@ -125,7 +125,7 @@ impl TraceMachine {
         line: &Line<'_>,
         event: &'x Event,
         outcome: &'x Outcome,
-    ) -> Result<(), Stop>
+    ) -> Judged
         ensures { OnOk result ((choice : spec_choice.Choice) × Continues self.old (Came event.now outcome.now choice ∷ []) self.new) }
     {
         let reply = Reported {
@@ -142,7 +142,7 @@ impl TraceMachine {
         line: &Line<'_>,
         event: &'x Event,
         outcome: &'x Outcome,
-    ) -> Result<(), Stop>
+    ) -> Judged
         ensures { OnOk result ((choice : spec_choice.Choice) × (choice.taken ≡ [])
             × Continues self.old (Came event.now outcome.now choice ∷ []) self.new) }
     {
@@ -161,7 +161,7 @@ impl TraceMachine {
         devices: &[DeviceId],
         change: Change,
         outcome: &Outcome,
-    ) -> Result<(), Stop>
+    ) -> Judged
         ensures { OnOk result ((others : List Happening) × CameInTurn (map (λ device. event_of device change) devices.now) outcome.now others
             × Continues self.old others self.new) }
     {
@@ -175,12 +175,7 @@ impl TraceMachine {
     }
 
     /// What this changes of a device changes of each other one that shares its domain.
-    fn change_sharers(
-        &mut self,
-        line: &Line<'_>,
-        event: &Event,
-        outcome: &Outcome,
-    ) -> Result<(), Stop>
+    fn change_sharers(&mut self, line: &Line<'_>, event: &Event, outcome: &Outcome) -> Judged
         ensures { OnOk result ((others : List Happening) × IsShared (change_by event.now outcome.now) outcome.now others
             × Continues self.old others self.new) }
     {
@@ -192,7 +187,7 @@ impl TraceMachine {
     }
 
     /// This came of the event. A grant and a release are those of each device of the domain, and it is its first that is named.
-    pub(crate) fn go_on(&mut self, line: &Line<'_>, reply: &Reported<'_>) -> Result<(), Stop>
+    pub(crate) fn go_on(&mut self, line: &Line<'_>, reply: &Reported<'_>) -> Judged
         ensures { OnOk result ((choice : spec_choice.Choice) × ShowsChoice reply.now.shown reply.now.event.now choice
             × ContinuesBy self.old reply.now.event.now reply.now.outcome.now choice self.new) }
     {
@@ -211,7 +206,7 @@ impl TraceMachine {
         outcome: &'x Outcome,
         has_tables: bool,
         tables: &'x [u64],
-    ) -> Result<(), Stop>
+    ) -> Judged
         ensures { OnOk result (ContinuesAtEach self.old device first outcome.now count has_tables tables.now self.new) }
     {
         for index in 0..count {
@@ -236,7 +231,7 @@ impl TraceMachine {
         granted: GrantedPages,
         has_tables: bool,
         tables: &[u64],
-    ) -> Result<(), Stop>
+    ) -> Judged
         ensures { OnOk result (ContinuesAtEach self.old granted.device (changes.Grant granted.page granted.frame granted.rights) outcomes.Done granted.count
             has_tables tables.now self.new) }
     {
@@ -263,7 +258,7 @@ impl TraceMachine {
         line: &Line<'_>,
         released: ReleasedPages,
         ticket: u32,
-    ) -> Result<(), Stop>
+    ) -> Judged
         ensures { OnOk result (ContinuesAs self.old (Releases released.device released.page released.count ticket) [] self.new) }
     {
         let first = Change::Release {

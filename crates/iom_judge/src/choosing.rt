@@ -3,7 +3,7 @@ ghost use Rattle.std.specs.Prelude.{◌≡◌, ℕ, List, IfOk, IfSome, IsTrue, 
 ghost use Rattle.iom_judge.specs.Certified.{ShowsChoice, ShowsTables};
 
 use crate::missing::{Begun, Missing};
-use crate::settled::{Reachable, first_reachable, frame_of_access, page_without};
+use crate::settled::{Reachable, Settled, first_reachable, page_without};
 use crate::stop::Line;
 use iom_base::{Access, AccessKind, Cause, DeviceId, Mode, PAGE_SIZE, Sequence};
 use iom_fabric::Translation;
@@ -104,16 +104,11 @@ fn root_size(mode: Mode) -> usize {
 }
 
 /// Those tables are chosen that are shown: of an attach those of the root stand first, and behind them pages of the device directory.
-fn choose_tables(
-    alloc: Global,
-    choice: &mut Choice,
-    event: &Event,
-    tables: Tables<'_>,
-) -> Result<(), AllocError>
-    ensures tables { OnOk result (ShowsTables tables.entry event.now choice.new) }
+fn choose_tables(alloc: Global, choice: &mut Choice, reply: &Reported<'_>) -> Result<(), AllocError>
+    ensures tables { OnOk result (ShowsTables reply.now.shown.tables reply.now.event.now choice.new) }
     ensures others { OnOk result (choice.new ≡ record choice.old { taken = choice.new.taken; directory = choice.new.directory }) }
 {
-    match (tables, event) {
+    match (reply.shown.tables, reply.event) {
         (Tables::Own(None), _) => {}
         (Tables::Own(Some(tables)), Event::Attach { mode, .. }) => {
             let (root, pages) = tables.split_at(root_size(*mode).min(tables.len()));
@@ -132,14 +127,10 @@ fn choose_tables(
 }
 
 /// What the line shows is chosen as it shows it.
-fn choose_shown(
-    alloc: Global,
-    choice: &mut Choice,
-    event: &Event,
-    shown: &Shown<'_>,
-) -> Result<(), AllocError>
-    ensures { OnOk result (ShowsChoice shown.now event.now choice.new) }
+fn choose_shown(alloc: Global, choice: &mut Choice, reply: &Reported<'_>) -> Result<(), AllocError>
+    ensures { OnOk result (ShowsChoice reply.now.shown reply.now.event.now choice.new) }
 {
+    let shown = &reply.shown;
     if !choice.returned.as_slice().is_empty() || !shown.freed.is_empty() {
         choice.returned = list_of(alloc, shown.freed)?;
     }
@@ -149,7 +140,7 @@ fn choose_shown(
     if let Some(frame) = shown.on {
         choice.frame = frame;
     }
-    choose_tables(alloc, choice, event, shown.tables)
+    choose_tables(alloc, choice, reply)
 }
 
 /// A page of which the device may be told so, if there is one.
@@ -257,7 +248,7 @@ impl Chosen {
 
     /// The frame of an access that was accepted, where it isn't shown: the one that the grants say.
     fn choose_frame(&mut self, kept: &KeptState, begun: Begun, address: u64, kind: AccessKind) {
-        let settled = frame_of_access(kept, begun.device, address, kind);
+        let settled = Settled::of(kept, begun.device, address, kind);
         self.choice.frame = settled.frame;
         if !settled.is_certain {
             self.missing = Some(Missing::Frame(begun));
@@ -265,13 +256,7 @@ impl Chosen {
     }
 
     /// An access of a block device's step that isn't shown: a read of one byte, of the frame that is shown, or else of the first.
-    fn choose_any_access(
-        &mut self,
-        alloc: Global,
-        kept: &KeptState,
-        begun: Begun,
-        on: Option<u64>,
-    ) {
+    fn choose_access(&mut self, alloc: Global, kept: &KeptState, begun: Begun, on: Option<u64>) {
         let found = first_reachable(kept, begun.device, |it: Reachable| -> bool {
             on.is_none() || on == Some(it.frame)
         });
@@ -299,7 +284,7 @@ impl Chosen {
             line: line.number,
         };
         match access {
-            None => self.choose_any_access(line.alloc, kept, begun, reply.shown.on),
+            None => self.choose_access(line.alloc, kept, begun, reply.shown.on),
             Some((address, kind)) => {
                 if reply.shown.on.is_none() {
                     self.choose_frame(kept, begun, address, kind);
@@ -357,6 +342,6 @@ impl Chosen {
         ensures { OnOk result (ShowsChoice reply.now.shown reply.now.event.now self.new.choice) }
     {
         self.choose_unshown(line, kept, notes, reply)?;
-        choose_shown(line.alloc, &mut self.choice, reply.event, &reply.shown)
+        choose_shown(line.alloc, &mut self.choice, reply)
     }
 }

@@ -8,7 +8,7 @@ ghost use Rattle.iom_judge.specs.Sharing.{is_gone, is_this, own_domain, sharers,
 
 use crate::choosing::Reported;
 use crate::missing::Missing;
-use crate::stop::{Line, Stop};
+use crate::stop::{Judged, Line};
 use indexmap::IndexMap;
 use iom_base::DeviceId;
 use iom_kept_state::{KeptGrants, KeptState};
@@ -144,12 +144,7 @@ impl Domains {
     }
 
     /// What follows can't be certified where tables go back by this, while another device may still walk in them.
-    pub(crate) fn check(
-        &self,
-        line: &Line<'_>,
-        kept: &KeptState,
-        reply: &Reported<'_>,
-    ) -> Result<(), Stop>
+    pub(crate) fn check(&self, line: &Line<'_>, kept: &KeptState, reply: &Reported<'_>) -> Judged
         ensures { (h : History) → IsPastOf kept.now.grants h → OnOk result
             (IfSome (tables_end reply.now.event.now reply.now.outcome.now) (NoneWalks (first_in self.now) h kept.now.devices)) }
     {
@@ -162,16 +157,14 @@ impl Domains {
     }
 
     /// Nor where a page is granted to, or released by, a device that isn't the first of its domain.
-    pub(crate) fn check_first(&self, line: &Line<'_>, event: &Event) -> Result<(), Stop> {
-        let (Event::Grant { device, .. } | Event::Release { device, .. }) = event else {
-            return Ok(());
+    pub(crate) fn check_first(&self, line: &Line<'_>, event: &Event) -> Judged {
+        let device = match event {
+            Event::Grant { device, .. } | Event::Release { device, .. } => *device,
+            _ => return Ok(()),
         };
-        match self.first_with(*device) {
+        match self.first_with(device) {
             None => Ok(()),
-            Some(first) => Err(line.uncertified(Missing::Domain {
-                device: *device,
-                first,
-            })?),
+            Some(first) => Err(line.uncertified(Missing::Domain { device, first })?),
         }
     }
 

@@ -5,7 +5,7 @@ ghost use Rattle.iom_judge.specs.Certified.{ContinuesAs};
 
 use crate::choosing::{NOTHING, Reported, Shown};
 use crate::machine::TraceMachine;
-use crate::stop::{Line, Stop};
+use crate::stop::{Judged, Line};
 use iom_base::Owner;
 use iom_kept_state::KeptState;
 use iom_machine::{Attachment, Event, Outcome};
@@ -13,12 +13,10 @@ use std::alloc::{AllocError, Global};
 
 /// The first of the tables that may not be given back.
 fn first_in_use(kept: &KeptState, tables: &[u64]) -> Option<u64> {
-    for (index, table) in tables.iter().enumerate() {
-        if !kept.may_give_back_all(tables.get(index..index + 1)?) {
-            return Some(*table);
-        }
-    }
-    None
+    tables
+        .iter()
+        .copied()
+        .find(|table| !kept.may_give_back_all(&[*table]))
 }
 
 /// Why the table may not be given back.
@@ -44,11 +42,11 @@ fn why_in_use(alloc: Global, kept: &KeptState, table: u64) -> Result<String, All
 impl TraceMachine {
     /// These tables are given back.
     #[inline(never)]
-    pub(crate) fn free_tables(&mut self, line: &Line<'_>, tables: &[u64]) -> Result<(), Stop>
+    pub(crate) fn free_tables(&mut self, line: &Line<'_>, tables: &[u64]) -> Judged
         ensures { OnOk result (ContinuesAs self.old TablesFreed tables.now self.new) }
     {
         if let Some(table) = first_in_use(&self.kept, tables) {
-            if let Some(missing) = self.guesses.of_tables() {
+            if let Some(missing) = self.guesses.tables {
                 return Err(line.uncertified(missing)?);
             }
             let why = why_in_use(line.alloc, &self.kept, table)?;

@@ -17,7 +17,7 @@ pub(crate) struct Guesses {
     /// Whether a line has shown which frames became tables. Then those that don't took none.
     shows_tables: bool,
     /// The first line that took some and doesn't show them.
-    tables: Option<Missing>,
+    pub(crate) tables: Option<Missing>,
     /// Whether a device was detached since: its tables are given back, as frames of zeros.
     gives_back: bool,
     /// The accesses in flight of which something was guessed.
@@ -87,12 +87,9 @@ impl Guesses {
 
     /// The place of what was guessed of the device's access with this number.
     fn place_of(&self, device: DeviceId, number: u64) -> Option<usize> {
-        for (place, missing) in self.in_flight.iter().enumerate() {
-            if is_of(*missing, device, number) {
-                return Some(place);
-            }
-        }
-        None
+        self.in_flight
+            .iter()
+            .position(|missing| is_of(*missing, device, number))
     }
 
     /// The place of what was guessed of the access that the event makes, if it is a commit.
@@ -124,11 +121,6 @@ impl Guesses {
         if may_write && self.made.is_none() {
             self.made = Some(made);
         }
-    }
-
-    /// What was guessed of tables, if something was.
-    pub(crate) fn of_tables(&self) -> Option<Missing> {
-        self.tables
     }
 
     /// What bytes in memory depend on.
@@ -199,19 +191,14 @@ impl Guesses {
     }
 
     /// What it depends on that this may not come of the event: a guess, if there is one.
-    pub(crate) fn behind(
-        &self,
-        kept: &KeptState,
-        event: &Event,
-        outcome: &Outcome,
-    ) -> Option<Missing> {
-        match (event, outcome) {
-            (Event::Commit { .. }, outcome) => match self.guess_at(self.place_of_oldest(
-                kept, event,
-            )) {
-                None if matches!(outcome, Outcome::Read(_)) => self.of_bytes(),
-                found => found,
-            },
+    pub(crate) fn behind(&self, kept: &KeptState, reply: &Reported<'_>) -> Option<Missing> {
+        match (reply.event, reply.outcome) {
+            (Event::Commit { .. }, outcome) => {
+                match self.guess_at(self.place_of_oldest(kept, reply.event)) {
+                    None if matches!(outcome, Outcome::Read(_)) => self.of_bytes(),
+                    found => found,
+                }
+            }
             (Event::Poll, Outcome::Confirmed { first, last, .. }) => {
                 self.of_poll(kept, *first, *last)
             }

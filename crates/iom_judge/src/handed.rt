@@ -6,7 +6,7 @@ ghost use Rattle.iom_trace_lines.specs.TraceLines.{takes_frames, Handoff, Take};
 
 use crate::choosing::Reported;
 use crate::machine::TraceMachine;
-use crate::stop::{Line, Stop};
+use crate::stop::{Judged, Line};
 use indexmap::IndexMap;
 use iom_machine::{Choice, Event, Outcome};
 use std::alloc::{AllocError, Global};
@@ -138,12 +138,7 @@ impl Handed {
     }
 
     /// The line is unlawful where this uses a frame that was given away.
-    pub(crate) fn check(
-        &self,
-        line: &Line<'_>,
-        reply: &Reported<'_>,
-        choice: &Choice,
-    ) -> Result<(), Stop>
+    pub(crate) fn check(&self, line: &Line<'_>, reply: &Reported<'_>, choice: &Choice) -> Judged
         ensures { OnOk result (IsTrue self.now.takes_back → (frame : ℕ)
             → IsTrue (is_used reply.now.event.now reply.now.outcome.now choice.now frame) → is_given self.now frame ≡ false) }
     {
@@ -164,7 +159,7 @@ impl Handed {
 
 impl TraceMachine {
     /// The frame is given to somebody else.
-    pub(crate) fn hand_off(&mut self, line: &Line<'_>, frame: u64) -> Result<(), Stop>
+    pub(crate) fn hand_off(&mut self, line: &Line<'_>, frame: u64) -> Judged
         ensures { OnOk result (ContinuesAs self.old (Handoff frame) [] self.new) }
     {
         self.go_on_unshown(line, &Event::Free { frame }, &Outcome::Free(true))?;
@@ -173,7 +168,7 @@ impl TraceMachine {
     }
 
     /// The frame is taken back.
-    pub(crate) fn take_back(&mut self, line: &Line<'_>, frame: u64) -> Result<(), Stop>
+    pub(crate) fn take_back(&mut self, line: &Line<'_>, frame: u64) -> Judged
         ensures { OnOk result (ContinuesAs self.old (Take frame) [] self.new) }
     {
         if self.handed.take_back(frame) {

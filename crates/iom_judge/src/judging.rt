@@ -6,7 +6,7 @@ ghost use Rattle.iom_judge.specs.Certificates.{IsSoOf};
 ghost use Rattle.iom_judge.specs.Certified.{Begins, Certify, HasJudged, HasTakenAll, IsReadOf, Names};
 
 use crate::machine::TraceMachine;
-use crate::stop::{Line, Stop};
+use crate::stop::{Judged, Line, Stop};
 use crate::verdict::{Finding, Verdict};
 use iom_script::LineBuffer;
 use iom_trace_lines::{KeptOutcomes, Lines, NextLine, TraceLine, read_line};
@@ -18,11 +18,7 @@ const NO_END: &str = "it is longer than 65,535 bytes, or has no line feed";
 
 /// The line says this, and no world has its size yet.
 #[inline(never)]
-fn begin<'x>(
-    found: &mut Option<TraceMachine>,
-    line: &Line<'_>,
-    said: &'x TraceLine<'x>,
-) -> Result<(), Stop>
+fn begin<'x>(found: &mut Option<TraceMachine>, line: &Line<'_>, said: &'x TraceLine<'x>) -> Judged
     ensures { OnOk result (Begins (said_of said.now) found.old found.new) }
 {
     match said {
@@ -45,7 +41,7 @@ fn take_said<'x>(
     line: &Line<'_>,
     said: &'x TraceLine<'x>,
     tables: &'x [u64],
-) -> Result<(), Stop>
+) -> Judged
     ensures { (text : List ℕ) (lines : List (List ℕ)) → IsReadOf text (said_of said.now) tables.now → Certify found.old (spoken lines)
         → OnOk result (Certify found.new (spoken (lines ++ text ∷ []))) }
 {
@@ -73,7 +69,7 @@ impl Reading {
     }
 
     /// The machine takes the line, if it may come.
-    fn take(&mut self, found: &mut Option<TraceMachine>, line: &Line<'_>) -> Result<(), Stop>
+    fn take(&mut self, found: &mut Option<TraceMachine>, line: &Line<'_>) -> Judged
         ensures { (lines : List (List ℕ)) → Certify found.old (spoken lines)
             → OnOk result (Certify found.new (spoken (lines ++ line.now.text.now ∷ []))) }
     {

@@ -10,7 +10,7 @@ use crate::choosing::{Chosen, Reported, Shown, Tables, where_shown};
 use crate::domains::Domains;
 use crate::guesses::Guesses;
 use crate::handed::Handed;
-use crate::stop::{Line, Stop};
+use crate::stop::{Judged, Line, Stop};
 use crate::verdict::Finding;
 use iom_kept_state::KeptState;
 use iom_machine_judge::judge;
@@ -88,11 +88,7 @@ impl TraceMachine {
     }
 
     /// Whether this may come of the event without the model's limits.
-    fn may_come_unlimited(
-        &mut self,
-        alloc: Global,
-        reply: &Reported<'_>,
-    ) -> Result<bool, AllocError> {
+    fn comes_unlimited(&mut self, alloc: Global, reply: &Reported<'_>) -> Result<bool, AllocError> {
         let limits = self.kept.limits;
         if limits.pages.is_some() {
             return Ok(false);
@@ -107,8 +103,7 @@ impl TraceMachine {
     /// Why the judging stops at a line of which this may not come.
     #[inline(never)]
     fn refusal(&mut self, line: &Line<'_>, reply: &Reported<'_>) -> Result<Stop, AllocError> {
-        let guessed = self.guesses.behind(&self.kept, reply.event, reply.outcome);
-        if let Some(missing) = guessed {
+        if let Some(missing) = self.guesses.behind(&self.kept, reply) {
             return line.uncertified(missing);
         }
         let facts = Facts {
@@ -118,14 +113,14 @@ impl TraceMachine {
         };
         let why = facts.reason(line.alloc, reply.event, reply.outcome)?;
         let reason = line.quoting(&why)?;
-        if self.may_come_unlimited(line.alloc, reply)? {
+        if self.comes_unlimited(line.alloc, reply)? {
             return line.stop(Finding::Beyond(reason));
         }
         line.stop(Finding::Unlawful(reason))
     }
 
     /// This came of the event, and of no other device's with it. It is left out where it may not come.
-    pub(crate) fn go_on_alone(&mut self, line: &Line<'_>, reply: &Reported<'_>) -> Result<(), Stop>
+    pub(crate) fn go_on_alone(&mut self, line: &Line<'_>, reply: &Reported<'_>) -> Judged
         ensures { OnOk result ((choice : spec.Choice) × ShowsChoice reply.now.shown reply.now.event.now choice
             × Continues self.old (Came reply.now.event.now reply.now.outcome.now choice ∷ []) self.new) }
     {
@@ -154,7 +149,7 @@ impl TraceMachine {
         line: &Line<'_>,
         said: &'x TraceLine<'x>,
         tables: &'x [u64],
-    ) -> Result<(), Stop>
+    ) -> Judged
         ensures { (text : List ℕ) → SaysLine text (said_of said.now) tables.now → OnOk result (Follows self.old (said_of said.now) tables.now self.new) }
     {
         match said {
@@ -185,7 +180,7 @@ impl TraceMachine {
         line: &Line<'_>,
         said: &'x TraceLine<'x>,
         tables: &'x [u64],
-    ) -> Result<(), Stop>
+    ) -> Judged
         ensures { (text : List ℕ) → SaysLine text (said_of said.now) tables.now → OnOk result (Follows self.old (said_of said.now) tables.now self.new) }
     {
         let TraceLine::Step {

@@ -6,7 +6,7 @@ ghost use Rattle.iom_judge.specs.Happenings.{MayBeTold};
 
 use crate::machine::TraceMachine;
 use crate::settled::device_with;
-use crate::stop::{Line, Stop};
+use crate::stop::{Judged, Line};
 use arrayvec::ArrayVec;
 use iom_base::{AcceptedAccess, AccessKind, DeviceId, PAGE_SIZE};
 use iom_kept_state::KeptState;
@@ -20,17 +20,13 @@ fn oldest(kept: &KeptState, id: DeviceId) -> Option<&AcceptedAccess> {
 
 /// What a read gives that is made now.
 fn read_now(kept: &KeptState, made: &AcceptedAccess) -> ArrayVec<u8, 4096> {
-    let mut bytes = ArrayVec::new();
+    let mut read = ArrayVec::new();
     let offset = (made.access.address % PAGE_SIZE) as usize;
-    let len = made.access.len.min(PAGE_SIZE) as usize;
-    if let Some(all) = kept
-        .frames
-        .bytes(made.frame)
-        .get(offset..offset.saturating_add(len))
-    {
-        let _fits = bytes.try_extend_from_slice(all);
+    let end = offset.saturating_add(made.access.len.min(PAGE_SIZE) as usize);
+    if let Some(bytes) = kept.frames.bytes(made.frame).get(offset..end) {
+        let _fits = read.try_extend_from_slice(bytes);
     }
-    bytes
+    read
 }
 
 /// What comes of the device's oldest access, where it is made now: of a read, or of whatever it is.
@@ -49,12 +45,7 @@ fn made_now(kept: &KeptState, id: DeviceId, is_read: bool) -> Outcome
 impl TraceMachine {
     /// The device's oldest access was made.
     #[inline(never)]
-    pub(crate) fn make(
-        &mut self,
-        line: &Line<'_>,
-        device: DeviceId,
-        is_read: bool,
-    ) -> Result<(), Stop>
+    pub(crate) fn make(&mut self, line: &Line<'_>, device: DeviceId, is_read: bool) -> Judged
         ensures { OnOk result (ContinuesAs self.old (Made device is_read) [] self.new) }
     {
         let made = made_now(&self.kept, device, is_read);

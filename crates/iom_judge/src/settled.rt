@@ -1,7 +1,7 @@
 // On which frame an access is, so far as the grants say.
-use iom_base::{AccessKind, DeviceId, PAGE_SIZE, Rights};
+use iom_base::{AccessKind, DeviceId, Mode, PAGE_SIZE, Rights};
 use iom_kept_state::KeptState;
-use iom_machine::{Attachment, Device};
+use iom_machine::Device;
 
 /// A frame on which an access may be, and whether it may be on no other.
 #[derive(Clone, Copy)]
@@ -24,14 +24,6 @@ pub(crate) fn device_with(devices: &[Device], id: DeviceId) -> Option<&Device> {
     devices.iter().find(|device| device.id == id)
 }
 
-/// Whether a request of the device is, or was, translated in both stages.
-pub(crate) fn has_both_stages(attachment: Attachment) -> bool {
-    match attachment.mode() {
-        None => false,
-        Some(mode) => mode.is_both(),
-    }
-}
-
 /// What the device has at the page.
 pub(crate) fn reachable_at(kept: &KeptState, id: DeviceId, page: u64) -> Option<Reachable> {
     let held = kept.grants.held(id, page);
@@ -45,6 +37,14 @@ pub(crate) fn reachable_at(kept: &KeptState, id: DeviceId, page: u64) -> Option<
         rights,
         is_held: held.is_some(),
     })
+}
+
+/// The frame of what was found; 0 where that is nothing.
+fn frame_of(found: Option<Reachable>) -> u64 {
+    match found {
+        None => 0,
+        Some(it) => it.frame,
+    }
 }
 
 /// The first of what the device has that is so.
@@ -66,46 +66,35 @@ pub(crate) fn first_reachable<F: Fn(Reachable) -> bool>(
     None
 }
 
-/// A frame that the device may reach by an access of this kind, at some page: one that it holds, rather than one that may end soon.
-fn some_frame(kept: &KeptState, id: DeviceId, kind: AccessKind) -> Settled {
-    let held = first_reachable(kept, id, |it: Reachable| -> bool {
-        it.is_held && it.rights.allows(kind)
-    });
-    let any = match held {
-        None => first_reachable(kept, id, |it: Reachable| -> bool { it.rights.allows(kind) }),
-        held => held,
-    };
-    let Some(Reachable { frame, .. }) = any else {
-        return Settled {
-            frame: 0,
-            is_certain: true,
+impl Settled {
+    /// A frame that the device may reach by an access of this kind, at some page: one that it holds, rather than one that may end soon.
+    fn somewhere(kept: &KeptState, id: DeviceId, kind: AccessKind) -> Settled {
+        let held = first_reachable(kept, id, |it: Reachable| -> bool {
+            it.is_held && it.rights.allows(kind)
+        });
+        let any = match held {
+            None => first_reachable(kept, id, |it: Reachable| -> bool { it.rights.allows(kind) }),
+            held => held,
         };
-    };
-    let other = first_reachable(kept, id, |it: Reachable| -> bool {
-        it.frame != frame && it.rights.allows(kind)
-    });
-    Settled {
-        frame,
-        is_certain: other.is_none(),
+        let frame = frame_of(any);
+        let other = first_reachable(kept, id, |it: Reachable| -> bool {
+            it.frame != frame && it.rights.allows(kind)
+        });
+        Settled {
+            frame,
+            is_certain: other.is_none(),
+        }
     }
-}
 
-/// The frame on which an access of the device is that was accepted. Of a device in one stage that is what it has at the page.
-pub(crate) fn frame_of_access(
-    kept: &KeptState,
-    id: DeviceId,
-    address: u64,
-    kind: AccessKind,
-) -> Settled {
-    if has_both_stages(kept.attachment(id)) {
-        return some_frame(kept, id, kind);
-    }
-    Settled {
-        frame: match reachable_at(kept, id, address / PAGE_SIZE) {
-            None => 0,
-            Some(it) => it.frame,
-        },
-        is_certain: true,
+    /// The frame on which an access of the device is that was accepted. Of a device in one stage that is what it has at the page.
+    pub(crate) fn of(kept: &KeptState, id: DeviceId, address: u64, kind: AccessKind) -> Settled {
+        if let Some(Mode::Both(_)) = kept.attachment(id).mode() {
+            return Settled::somewhere(kept, id, kind);
+        }
+        Settled {
+            frame: frame_of(reachable_at(kept, id, address / PAGE_SIZE)),
+            is_certain: true,
+        }
     }
 }
 

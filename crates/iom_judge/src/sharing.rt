@@ -16,7 +16,7 @@ ghost use Rattle.iom_judge.specs.Sharing.{first_of, MayShare};
 use crate::choosing::{NOTHING, Reported, Shown, Tables, where_shown};
 use crate::machine::TraceMachine;
 use crate::missing::Missing;
-use crate::stop::{Line, Stop};
+use crate::stop::{Judged, Line, Stop};
 use crate::verdict::Finding;
 use iom_base::{DeviceId, GrantRights, Mode, Rights};
 use iom_machine::{Attachment, Event, Outcome};
@@ -81,7 +81,7 @@ impl TraceMachine {
     }
 
     /// The device has the domain of the other one from here on.
-    fn share(&mut self, line: &Line<'_>, device: DeviceId, with: DeviceId) -> Result<(), Stop>
+    fn share(&mut self, line: &Line<'_>, device: DeviceId, with: DeviceId) -> Judged
         ensures { OnOk result (Continues self.old (Joined device with ∷ []) self.new) }
     {
         let Some(first) = self.first_to_share(device, with) else {
@@ -113,7 +113,7 @@ impl TraceMachine {
         device: DeviceId,
         first: DeviceId,
         index: usize,
-    ) -> Result<(), Stop>
+    ) -> Judged
         ensures { OnOk result (ContinuesByHeld self.old device self.new) }
     {
         match self.grant_of_held(device, first, index) {
@@ -123,7 +123,7 @@ impl TraceMachine {
     }
 
     /// The device is granted what this first one holds.
-    fn grant_held(&mut self, line: &Line<'_>, device: DeviceId, first: DeviceId) -> Result<(), Stop>
+    fn grant_held(&mut self, line: &Line<'_>, device: DeviceId, first: DeviceId) -> Judged
         ensures { OnOk result (ContinuesByHeld self.old device self.new) }
     {
         for index in 0..self.kept.grants.page_count(first) {
@@ -140,7 +140,7 @@ impl TraceMachine {
         mode: Mode,
         ats: bool,
         pages: Option<&[u64]>,
-    ) -> Result<(), Stop>
+    ) -> Judged
         ensures { OnOk result ((choice : spec_choice.Choice) × (choice.taken ≡ []) × IfSome pages.entry (λ it. choice.directory ≡ it.now)
             × Continues self.old (Came (events.Attach device mode ats) outcomes.Done choice ∷ []) self.new) }
     {
@@ -180,7 +180,7 @@ impl TraceMachine {
         ats: bool,
         has_tables: bool,
         tables: &[u64],
-    ) -> Result<(), Stop>
+    ) -> Judged
         ensures { OnOk result (ContinuesAs self.old (Joins device with ats has_tables) tables.now self.new) }
     {
         let mode = self.mode_to_share(line, with)?;

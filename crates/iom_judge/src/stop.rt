@@ -15,6 +15,9 @@ pub(crate) enum Stop {
     Failed(AllocError),
 }
 
+/// What a line comes to: the judging goes on behind it, or stops.
+pub(crate) type Judged = Result<(), Stop>;
+
 impl From<AllocError> for Stop {
     fn from(error: AllocError) -> Stop {
         Stop::Failed(error)
