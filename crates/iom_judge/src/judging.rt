@@ -8,7 +8,7 @@ ghost use Rattle.iom_judge.specs.Certified.{Begins, Certify, HasJudged, HasTaken
 use crate::machine::TraceMachine;
 use crate::stop::{Judged, Line, Stop};
 use crate::verdict::{Finding, Verdict};
-use iom_script::LineBuffer;
+use iom_base::Access;
 use iom_trace_lines::{KeptOutcomes, Lines, NextLine, TraceLine, read_line};
 use std::alloc::Global;
 use std::io::{self, ErrorKind, Read};
@@ -54,17 +54,17 @@ fn take_said<'x>(
 /// What the reading of a line takes, for line after line.
 #[derive(Drop)]
 struct Reading {
-    printed: LineBuffer,
     outcomes: KeptOutcomes,
     tables: Vec<u64>,
+    began: Option<Access>,
 }
 
 impl Reading {
     fn new(alloc: Global) -> io::Result<Reading> {
         Ok(Reading {
-            printed: LineBuffer::new(alloc)?,
-            outcomes: KeptOutcomes::new(),
+            outcomes: KeptOutcomes::new(alloc)?,
             tables: Vec::new(alloc),
+            began: None,
         })
     }
 
@@ -75,9 +75,9 @@ impl Reading {
     {
         let said = read_line(
             line.alloc,
-            &mut self.printed,
             &mut self.outcomes,
             &mut self.tables,
+            &mut self.began,
             found.is_some(),
             line.text,
         )?;

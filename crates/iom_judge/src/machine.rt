@@ -200,7 +200,7 @@ impl TraceMachine {
                 tables: Tables::Own(where_shown(*has_tables, tables)),
                 freed: &[],
                 on: *on,
-                began: began.as_ref(),
+                began: *began,
             },
         };
         self.go_on(line, &reply)

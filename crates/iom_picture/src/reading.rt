@@ -1,6 +1,6 @@
 // What a reader has, as a timeline.
+use iom_base::Access;
 use iom_machine::{Event, Outcome};
-use iom_script::LineBuffer;
 use iom_timeline::{Follower, Shown, Timeline};
 use iom_trace_lines::{
     GrantedPages, KeptOutcomes, Lines, NextLine, ReleasedPages, TraceLine, read_line,
@@ -98,9 +98,9 @@ fn tell_other(
 #[derive(Drop)]
 struct Desk {
     alloc: Global,
-    printed: LineBuffer,
     kept: KeptOutcomes,
     tables: Vec<u64>,
+    began: Option<Access>,
     has_world: bool,
 }
 
@@ -108,9 +108,9 @@ impl Desk {
     fn new(alloc: Global) -> io::Result<Desk> {
         Ok(Desk {
             alloc,
-            printed: LineBuffer::new(alloc)?,
-            kept: KeptOutcomes::new(),
+            kept: KeptOutcomes::new(alloc)?,
             tables: Vec::new(alloc),
+            began: None,
             has_world: false,
         })
     }
@@ -119,9 +119,9 @@ impl Desk {
     fn tell(&mut self, follower: &mut Follower, line: &[u8]) -> Result<bool, AllocError> {
         let read = read_line(
             self.alloc,
-            &mut self.printed,
             &mut self.kept,
             &mut self.tables,
+            &mut self.began,
             self.has_world,
             line,
         )?;
@@ -134,10 +134,7 @@ impl Desk {
                 on,
                 began,
             } => {
-                let shown = Shown {
-                    on,
-                    began: began.as_ref(),
-                };
+                let shown = Shown { on, began };
                 follower.take(line, &event, outcome, shown)?;
                 Ok(true)
             }

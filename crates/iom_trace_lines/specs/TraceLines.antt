@@ -1,6 +1,6 @@
 -- What a line of a trace says: a script's line, ` => `, and the line of what came of it, with what is shown behind that.
 use Rattle.std.specs.Prelude.{◌≡◌, ◌≢◌, ◌⊎◌, ◌<◌, ◌+◌, ◌^◌, ℕ}
-use Rattle.std.specs.Prelude.{Bool, true, false, List, [], ◌∷◌, ◌++◌, Option, None, Some, IfSome, IsTrue, codes, ⊤}
+use Rattle.std.specs.Prelude.{Bool, true, false, List, [], ◌∷◌, ◌++◌, Option, None, Some, option_copied, IfSome, IsTrue, codes, ⊤}
 use Rattle.std.specs.List.{flat_map}
 use Rattle.std.specs.Fmt.{decimal}
 use Rattle.iom_base.specs.Accesses.{read_of, write_of}
@@ -162,11 +162,11 @@ SaysLine line (Take frame) tables = IsHandingLine (codes "take") line frame
 SaysLine line TablesFreed tables = IsFreedLine line tables
 SaysLine line Bad tables = ⊤
 
--- what was read of a line, with the outcome in the place that is lent
+-- what was read of a line, with the outcome, and the access that a step began, in the places that are lent
 abbrev pub said_of : TraceLine → Said
 said_of lines.Nothing = Nothing
 said_of (lines.World size limits) = World size limits
-said_of (lines.Step event outcome has_tables on began) = Step event outcome.now has_tables on began
+said_of (lines.Step event outcome has_tables on began) = Step event outcome.now has_tables on (option_copied began)
 said_of (lines.Made device is_read) = Made device is_read
 said_of (lines.Grants granted has_tables) = Grants granted.device granted.page granted.count granted.frame granted.rights has_tables
 said_of (lines.Joins device with ats has_tables) = Joins device with ats has_tables

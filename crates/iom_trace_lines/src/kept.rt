@@ -14,6 +14,7 @@ use iom_machine::{BlockStep, CommandName, Event, FaultRecord, Fetched, Outcome};
 use iom_script::LineBuffer;
 use iom_script::words::{after, byte_of, cut, eight_bytes, is_word, number_of, right_of};
 use iom_virtqueue::ChainFault;
+use std::alloc::{AllocError, Global};
 
 static REFUSALS: [Refusal; 23] = [
     Refusal::NoSuchDevice,
@@ -59,76 +60,48 @@ pub static CAUSES: [Cause; 11] = [
 /// fill of so many zeros: in such a place only what differs is written.
 #[derive(Drop)]
 pub struct KeptOutcomes {
-    refused: Outcome,
+    done: Outcome,
+    accepted: Outcome,
+    read: Outcome,
+    wrote: Outcome,
     ticket: Outcome,
+    fault: Outcome,
+    fetched: Outcome,
     confirmed: Outcome,
     none_confirmed: Outcome,
     given_up: Outcome,
-    record: Outcome,
-    fetched: Outcome,
-    accepted: Outcome,
-    fault: Outcome,
-    read: Outcome,
-    wrote: Outcome,
     bytes: Outcome,
-    answered: Outcome,
-    invalidated: Outcome,
-    closed: Outcome,
-    not_closed: Outcome,
-    stepped: Outcome,
-    status: Outcome,
-    free: Outcome,
-    done: Outcome,
     no_record: Outcome,
-    timed_out: Outcome,
-    no_effect: Outcome,
-    busy: Outcome,
-    bad_span: Outcome,
-    miss: Outcome,
     sent: Outcome,
-    lost: Outcome,
     kept: Outcome,
-    stale: Outcome,
-    answer_refused: Outcome,
-    ignored: Outcome,
-    dropped: Outcome,
-    repeated: Outcome,
     no_message: Outcome,
-    nothing_in_flight: Outcome,
+    stepped: Outcome,
+    /// Those that come less often, each beside how its words begin.
+    seldom: Vec<(&'static [u8], Outcome)>,
+    /// One of these is printed here.
+    printed: LineBuffer,
 }
 
-/// The place, which is one of this kind, with this told.
+/// The place, which is one of this kind, once that is told.
 macro_rules! tell {
-    ($place:expr, $kind:path, $reply:expr) => {{
-        let reply = $reply;
+    ($place:expr, $kind:pat => $told:expr) => {{
         match &mut $place {
-            $kind(held) => *held = reply,
+            $kind => $told,
             _ => return None,
         }
         Some(&$place)
     }};
 }
 
-/// The place, which is one of this kind, with the bytes that these digits say.
-macro_rules! tell_bytes {
-    ($place:expr, $kind:path, $digits:expr) => {{
-        match &mut $place {
-            $kind(list) => put_bytes(list, $digits)?,
-            _ => return None,
-        }
-        Some(&$place)
-    }};
-}
-
-/// The place, which is one of this kind, where the text is that word.
-macro_rules! tell_word {
-    ($text:expr, $word:literal, $place:expr, $kind:pat) => {
-        if is_word($text, $word) {
+/// What is told beside the first of these words that the text is.
+macro_rules! tell_words {
+    ($text:expr, $($word:literal => $place:expr, $kind:pat,)+) => {
+        $(if is_word($text, $word) {
             return match &$place {
                 $kind => Some(&$place),
                 _ => None,
             };
-        }
+        })+
     };
 }
 
@@ -199,8 +172,8 @@ fn record_of(text: &[u8]) -> Option<FaultRecord> {
     })
 }
 
-/// What a fetch did, by its words. `waiting` isn't among them: a step may wait too.
-fn fetched_of(text: &[u8]) -> Option<Fetched>
+/// What a fetch did, by its words. A step may wait too.
+fn fetched_of(event: &Event, text: &[u8]) -> Option<Fetched>
     ensures { IfSome result (λ fetched. text.now ≡ fetched_text fetched) }
 {
     match text {
@@ -211,6 +184,7 @@ fn fetched_of(text: &[u8]) -> Option<Fetched>
         b"did ats.inval" => Some(Fetched::Did(CommandName::AtsInval)),
         b"did iodir.inval_ddt" => Some(Fetched::Did(CommandName::IodirInvalDdt)),
         b"stopped" => Some(Fetched::Stopped),
+        b"waiting" if !matches!(event, Event::Step { .. }) => Some(Fetched::Waiting),
         _ => None,
     }
 }
@@ -283,21 +257,82 @@ fn translation_of(text: &[u8]) -> Option<Translation> {
     })
 }
 
-/// The request that `HEAD LEN` says is done.
-fn finished_of(text: &[u8]) -> Option<BlockStep> {
-    let (head, len) = cut(text, b' ')?;
-    Some(BlockStep::Finished {
-        head: u16::try_from(number_of(head)?).ok()?,
-        len: short_number_of(len)?,
-    })
+/// What a block device's step was that began no access, by its words.
+fn step_of(text: &[u8]) -> Option<BlockStep> {
+    match text {
+        b"waiting" => Some(BlockStep::Waiting),
+        b"idle" => Some(BlockStep::Idle),
+        b"asked" => Some(BlockStep::Asked),
+        b"down" => Some(BlockStep::Down),
+        b"chain Loop" => Some(BlockStep::Chain(ChainFault::Loop)),
+        b"chain BadIndex" => Some(BlockStep::Chain(ChainFault::BadIndex)),
+        b"chain Order" => Some(BlockStep::Chain(ChainFault::Order)),
+        b"chain Indirect" => Some(BlockStep::Chain(ChainFault::Indirect)),
+        b"chain TooLong" => Some(BlockStep::Chain(ChainFault::TooLong)),
+        b"chain Short" => Some(BlockStep::Chain(ChainFault::Short)),
+        _ => {
+            let (head, len) = cut(behind(text, b"finished ")?, b' ')?;
+            Some(BlockStep::Finished {
+                head: u16::try_from(number_of(head)?).ok()?,
+                len: short_number_of(len)?,
+            })
+        }
+    }
+}
+
+/// The places of outcomes that come less often, each beside how its words begin.
+fn seldom_places(alloc: Global) -> Result<Vec<(&'static [u8], Outcome)>, AllocError> {
+    let mut places: Vec<(&'static [u8], Outcome)> = Vec::with_capacity(alloc, 32)?;
+    places.push((b"record ", Outcome::Record(FaultRecord { words: [0; 4] })))?;
+    places.push((b"miss", Outcome::Miss))?;
+    let no_translation = Translation::Refused(Cause::ReadPageFault);
+    places.push((b"answer ", Outcome::Answered(no_translation)))?;
+    places.push((b"invalidated ", Outcome::Invalidated(0)))?;
+    places.push((b"closed ", Outcome::Closed(0)))?;
+    places.push((b"refused ", Outcome::Refused(Refusal::Memory)))?;
+    places.push((b"free yes", Outcome::Free(true)))?;
+    places.push((b"free no", Outcome::Free(false)))?;
+    places.push((b"busy", Outcome::Busy))?;
+    places.push((b"badspan", Outcome::BadSpan))?;
+    places.push((b"none", Outcome::NothingInFlight))?;
+    places.push((b"timed-out", Outcome::TimedOut))?;
+    places.push((b"no effect", Outcome::NoEffect))?;
+    places.push((b"lost", Outcome::Lost))?;
+    places.push((b"stale", Outcome::Stale))?;
+    places.push((b"refusal", Outcome::AnswerRefused))?;
+    places.push((b"ignored ", Outcome::NotClosed(0)))?;
+    places.push((b"ignored", Outcome::Ignored))?;
+    places.push((b"dropped", Outcome::Dropped))?;
+    places.push((b"repeated", Outcome::Repeated))?;
+    places.push((b"status ", Outcome::Status(0)))?;
+    Ok(places)
+}
+
+/// Tells the place what stands behind the start of its words. None where that doesn't say it.
+fn tell_place(place: &mut Outcome, rest: &[u8]) -> Option<()> {
+    match place {
+        Outcome::Record(record) => *record = record_of(rest)?,
+        Outcome::Answered(reply) => *reply = translation_of(rest)?,
+        Outcome::Invalidated(serial) | Outcome::Closed(serial) | Outcome::NotClosed(serial) =>
+            *serial = number_of(rest)?,
+        Outcome::Refused(why) => *why = refusal_of(rest)?,
+        Outcome::Status(status) => *status = u8::try_from(number_of(rest)?).ok()?,
+        _ => {}
+    }
+    Some(())
 }
 
 impl KeptOutcomes {
     /// Places of which each is of its kind.
-    pub fn new() -> KeptOutcomes {
-        KeptOutcomes {
-            refused: Outcome::Refused(Refusal::Memory),
+    pub fn new(alloc: Global) -> Result<KeptOutcomes, AllocError> {
+        Ok(KeptOutcomes {
+            done: Outcome::Done,
+            accepted: Outcome::Accepted(0),
+            read: Outcome::Read(ArrayVec::new()),
+            wrote: Outcome::Wrote(0),
             ticket: Outcome::Ticket(0),
+            fault: Outcome::Fault(Cause::ReadPageFault),
+            fetched: Outcome::Fetched(Fetched::Empty),
             confirmed: Outcome::Confirmed {
                 first: 0,
                 last: 0,
@@ -305,45 +340,22 @@ impl KeptOutcomes {
             },
             none_confirmed: Outcome::NoneConfirmed { timed_out: false },
             given_up: Outcome::NoneConfirmed { timed_out: true },
-            record: Outcome::Record(FaultRecord { words: [0; 4] }),
-            fetched: Outcome::Fetched(Fetched::Empty),
-            accepted: Outcome::Accepted(0),
-            fault: Outcome::Fault(Cause::ReadPageFault),
-            read: Outcome::Read(ArrayVec::new()),
-            wrote: Outcome::Wrote(0),
             bytes: Outcome::Bytes(ArrayVec::new()),
-            answered: Outcome::Answered(Translation::Refused(Cause::ReadPageFault)),
-            invalidated: Outcome::Invalidated(0),
-            closed: Outcome::Closed(0),
-            not_closed: Outcome::NotClosed(0),
-            stepped: Outcome::Stepped(BlockStep::Idle),
-            status: Outcome::Status(0),
-            free: Outcome::Free(false),
-            done: Outcome::Done,
             no_record: Outcome::NoRecord,
-            timed_out: Outcome::TimedOut,
-            no_effect: Outcome::NoEffect,
-            busy: Outcome::Busy,
-            bad_span: Outcome::BadSpan,
-            miss: Outcome::Miss,
             sent: Outcome::Sent,
-            lost: Outcome::Lost,
             kept: Outcome::Kept,
-            stale: Outcome::Stale,
-            answer_refused: Outcome::AnswerRefused,
-            ignored: Outcome::Ignored,
-            dropped: Outcome::Dropped,
-            repeated: Outcome::Repeated,
             no_message: Outcome::NoMessage,
-            nothing_in_flight: Outcome::NothingInFlight,
-        }
+            stepped: Outcome::Stepped(BlockStep::Idle),
+            seldom: seldom_places(alloc)?,
+            printed: LineBuffer::new(alloc)?,
+        })
     }
 
     /// The place of an access that is accepted, with its number told.
     pub(crate) fn accepted(&mut self, number: u64) -> Option<&Outcome>
         ensures { IfSome result (λ outcome. line_of outcome.now ≡ (codes "accepted " ++ decimal number) ++ 10 ∷ []) }
     {
-        tell!(self.accepted, Outcome::Accepted, number)
+        tell!(self.accepted, Outcome::Accepted(held) => *held = number)
     }
 
     /// The place of what is done.
@@ -356,120 +368,63 @@ impl KeptOutcomes {
         }
     }
 
-    /// The tickets that `A-B` says are confirmed, or none where it says `-`, with ` timeout` behind it or not.
-    fn confirmed(&mut self, text: &[u8]) -> Option<&Outcome>
-        ensures { IfSome result (λ outcome. line_of outcome.now ≡ (codes "confirmed " ++ text.now) ++ 10 ∷ []) }
+    /// The outcome that the text tells of the event, of those that come less often: it begins so, and how it goes on shows
+    /// when that is printed anew. `none` says of some events that there is no such message.
+    fn told_seldom(&mut self, event: &Event, text: &[u8]) -> Option<&Outcome>
+        ensures { IfSome result (λ outcome. line_of outcome.now ≡ text.now ++ 10 ∷ []) }
     {
-        tell_word!(
-            text,
-            b"-",
-            self.none_confirmed,
-            Outcome::NoneConfirmed { timed_out: false }
-        );
-        tell_word!(
-            text,
-            b"- timeout",
-            self.given_up,
-            Outcome::NoneConfirmed { timed_out: true }
-        );
-        let (lowest, highest, gives_up) = tickets_of(text)?;
-        match &mut self.confirmed {
-            Outcome::Confirmed {
-                first,
-                last,
-                timed_out,
-            } => {
-                *first = lowest;
-                *last = highest;
-                *timed_out = gives_up;
-            }
-            _ => return None,
+        let KeptOutcomes {
+            no_message,
+            stepped,
+            seldom,
+            printed,
+            ..
+        } = self;
+        if let Event::Deliver { .. } | Event::Drop { .. } | Event::Repeat { .. } = event {
+            tell_words!(text, b"none" => *no_message, Outcome::NoMessage,);
         }
-        Some(&self.confirmed)
-    }
-
-    /// The outcome that the text may tell of the event, of those that come less often: it begins so, and how it goes on
-    /// shows when that is printed anew. `none` says of some events that there is no such message.
-    fn told_seldom(&mut self, event: &Event, text: &[u8]) -> Option<&Outcome> {
-        tell_behind!(text, rest,
-            b"miss" => Some(&self.miss),
-            b"answer " => tell!(self.answered, Outcome::Answered, translation_of(rest)?),
-            b"invalidated " => tell!(self.invalidated, Outcome::Invalidated, number_of(rest)?),
-            b"closed " => tell!(self.closed, Outcome::Closed, number_of(rest)?),
-            b"refused " => tell!(self.refused, Outcome::Refused, refusal_of(rest)?),
-            b"record " => tell!(self.record, Outcome::Record, record_of(rest)?),
-            b"busy" => Some(&self.busy),
-            b"badspan" => Some(&self.bad_span),
-            b"timed-out" => Some(&self.timed_out),
-            b"no effect" => Some(&self.no_effect),
-            b"lost" => Some(&self.lost),
-            b"stale" => Some(&self.stale),
-            b"refusal" => Some(&self.answer_refused),
-            b"ignored " => tell!(self.not_closed, Outcome::NotClosed, number_of(rest)?),
-            b"ignored" => Some(&self.ignored),
-            b"dropped" => Some(&self.dropped),
-            b"repeated" => Some(&self.repeated),
-            b"free yes" => tell!(self.free, Outcome::Free, true),
-            b"free no" => tell!(self.free, Outcome::Free, false),
-            b"status " => tell!(self.status, Outcome::Status, u8::try_from(number_of(rest)?).ok()?),
-            b"none" => match event {
-                Event::Deliver { .. } | Event::Drop { .. } | Event::Repeat { .. } => Some(&self.no_message),
-                _ => Some(&self.nothing_in_flight),
-            },
-        );
-        self.told_of_step(event, text)
-    }
-
-    /// The same of what a block device's step may be that began no access. `waiting` says of another event that the IOMMU
-    /// waits with a command.
-    fn told_of_step(&mut self, event: &Event, text: &[u8]) -> Option<&Outcome> {
-        tell_behind!(text, rest,
-            b"waiting" => match event {
-                Event::Step { .. } => tell!(self.stepped, Outcome::Stepped, BlockStep::Waiting),
-                _ => tell!(self.fetched, Outcome::Fetched, Fetched::Waiting),
-            },
-            b"idle" => tell!(self.stepped, Outcome::Stepped, BlockStep::Idle),
-            b"finished " => tell!(self.stepped, Outcome::Stepped, finished_of(rest)?),
-            b"asked" => tell!(self.stepped, Outcome::Stepped, BlockStep::Asked),
-            b"down" => tell!(self.stepped, Outcome::Stepped, BlockStep::Down),
-            b"chain Loop" => tell!(self.stepped, Outcome::Stepped, BlockStep::Chain(ChainFault::Loop)),
-            b"chain BadIndex" => tell!(self.stepped, Outcome::Stepped, BlockStep::Chain(ChainFault::BadIndex)),
-            b"chain Order" => tell!(self.stepped, Outcome::Stepped, BlockStep::Chain(ChainFault::Order)),
-            b"chain Indirect" => tell!(self.stepped, Outcome::Stepped, BlockStep::Chain(ChainFault::Indirect)),
-            b"chain TooLong" => tell!(self.stepped, Outcome::Stepped, BlockStep::Chain(ChainFault::TooLong)),
-            b"chain Short" => tell!(self.stepped, Outcome::Stepped, BlockStep::Chain(ChainFault::Short)),
-        );
+        if let Some(step) = step_of(text) {
+            let reply = tell!(*stepped, Outcome::Stepped(held) => *held = step)?;
+            return if_printed(printed, reply, text);
+        }
+        for (start, place) in seldom.iter_mut() {
+            if let Some(rest) = behind(text, start) {
+                tell_place(place, rest)?;
+                return if_printed(printed, place, text);
+            }
+        }
         None
     }
-}
 
-/// The outcome that the text tells of the event. Those that come often are told by their words alone; another is printed
-/// anew, which shows whether that is the text.
-pub fn read_outcome<'a>(
-    printed: &mut LineBuffer,
-    kept: &'a mut KeptOutcomes,
-    event: &Event,
-    text: &[u8],
-) -> Option<&'a Outcome>
-    // What is read is what the text says.
-    ensures { IfSome result (λ outcome. line_of outcome.now ≡ text.now ++ 10 ∷ []) }
-{
-    tell_behind!(text, rest,
-        b"accepted " => tell!(kept.accepted, Outcome::Accepted, long_number_of(rest)?),
-        b"read " => tell_bytes!(kept.read, Outcome::Read, rest),
-        b"wrote " => tell!(kept.wrote, Outcome::Wrote, long_number_of(rest)?),
-        b"ticket " => tell!(kept.ticket, Outcome::Ticket, short_number_of(rest)?),
-        b"fault " => tell!(kept.fault, Outcome::Fault, cause_of(rest)?),
-        b"confirmed " => kept.confirmed(rest),
-        b"bytes " => tell_bytes!(kept.bytes, Outcome::Bytes, rest),
-    );
-    tell_word!(text, b"ok", kept.done, Outcome::Done);
-    tell_word!(text, b"no record", kept.no_record, Outcome::NoRecord);
-    tell_word!(text, b"sent", kept.sent, Outcome::Sent);
-    tell_word!(text, b"kept", kept.kept, Outcome::Kept);
-    if let Some(fetched) = fetched_of(text) {
-        return tell!(kept.fetched, Outcome::Fetched, fetched);
+    /// The outcome that the text tells of the event. Those that come often are told by their words alone.
+    pub(crate) fn tell(&mut self, event: &Event, text: &[u8]) -> Option<&Outcome>
+        // What is read is what the text says.
+        ensures { IfSome result (λ outcome. line_of outcome.now ≡ text.now ++ 10 ∷ []) }
+    {
+        tell_behind!(text, rest,
+            b"read " => tell!(self.read, Outcome::Read(bytes) => put_bytes(bytes, rest)?),
+            b"wrote " => tell!(self.wrote, Outcome::Wrote(len) => *len = long_number_of(rest)?),
+            b"ticket " => tell!(self.ticket, Outcome::Ticket(ticket) => *ticket = short_number_of(rest)?),
+            b"fault " => tell!(self.fault, Outcome::Fault(cause) => *cause = cause_of(rest)?),
+        );
+        tell_words!(text,
+            b"confirmed -" => self.none_confirmed, Outcome::NoneConfirmed { timed_out: false },
+            b"confirmed - timeout" => self.given_up, Outcome::NoneConfirmed { timed_out: true },
+        );
+        tell_behind!(text, rest,
+            b"confirmed " => tell!(self.confirmed, Outcome::Confirmed { first, last, timed_out } => {
+                (*first, *last, *timed_out) = tickets_of(rest)?;
+            }),
+            b"bytes " => tell!(self.bytes, Outcome::Bytes(bytes) => put_bytes(bytes, rest)?),
+        );
+        tell_words!(text,
+            b"no record" => self.no_record, Outcome::NoRecord,
+            b"sent" => self.sent, Outcome::Sent,
+            b"kept" => self.kept, Outcome::Kept,
+        );
+        if let Some(what) = fetched_of(event, text) {
+            return tell!(self.fetched, Outcome::Fetched(fetched) => *fetched = what);
+        }
+        self.told_seldom(event, text)
     }
-    let reply = kept.told_seldom(event, text)?;
-    if_printed(printed, reply, text)
 }

@@ -15,7 +15,7 @@ mod trace;
 mod words;
 mod zipping;
 
-pub use kept::{CAUSES, KeptOutcomes, read_outcome};
+pub use kept::{CAUSES, KeptOutcomes};
 pub use line::read_line;
 pub use reading::Lines;
 pub use trace::{GrantedPages, NextLine, ReleasedPages, TraceLine, WorldLimits};

@@ -7,7 +7,7 @@ ghost use Rattle.iom_script.specs.Lines.{line_of};
 ghost use Rattle.iom_trace_lines.specs.TraceLines.{access_text, EventAsksFor, is_accepted, takes_frames};
 ghost use Rattle.iom_trace_lines.specs.TraceLines.{said_of, SaysLine, Nothing, Step};
 
-use crate::kept::{KeptOutcomes, read_outcome};
+use crate::kept::KeptOutcomes;
 use crate::others::read_other;
 use crate::sizes::read_world;
 use crate::trace::TraceLine;
@@ -15,7 +15,8 @@ use crate::words::{behind, cut, long_number_of, number_before, read_frames};
 use iom_base::{Access, AccessKind, DeviceId, Sequence};
 use iom_machine::{Event, Outcome};
 use iom_script::words::is_word;
-use iom_script::{LineBuffer, event_of, is_spoken};
+use iom_script::{event_of, is_spoken};
+use memchr::{memchr, memrchr};
 use std::alloc::{AllocError, Global};
 
 /// Whether the event takes frames for tables, where it is done.
@@ -65,7 +66,7 @@ fn access_of(alloc: Global, event: Event) -> Option<(DeviceId, Access)>
 fn cut_on(behind: &[u8]) -> Option<(&[u8], Option<u64>)>
     ensures { IfSome result (λ parts. codes "; " ++ behind.now ≡ access_text parts.0.now parts.1) }
 {
-    let (asked, shown) = cut(behind, b"; on ", 0);
+    let (asked, shown) = cut(behind, b"; on ", memrchr(b';', behind));
     match shown {
         None => Some((asked, None)),
         Some(word) => Some((asked, Some(long_number_of(word)?))),
@@ -79,6 +80,7 @@ fn read_began<'a>(
     event: Event,
     outcome: &'a Outcome,
     text: &[u8],
+    began: &'a mut Option<Access>,
 ) -> Result<TraceLine<'a>, AllocError>
     ensures { (shown tables : List ℕ) → shown ≡ codes "; " ++ text.now → IsTrue (is_accepted outcome.now)
         → IfOk result (λ read. (said answered answer : List ℕ) → IsEventLine said event → line_of outcome.now ≡ answer ++ 10 ∷ []
@@ -91,13 +93,16 @@ fn read_began<'a>(
         return Ok(TraceLine::Bad);
     };
     match access_of(alloc, asks) {
-        Some((id, access)) if id == *device => Ok(TraceLine::Step {
-            event,
-            outcome,
-            has_tables: false,
-            on,
-            began: Some(access),
-        }),
+        Some((id, access)) if id == *device => {
+            *began = Some(access);
+            Ok(TraceLine::Step {
+                event,
+                outcome,
+                has_tables: false,
+                on,
+                began: began.as_ref(),
+            })
+        }
         _ => Ok(TraceLine::Bad),
     }
 }
@@ -110,6 +115,7 @@ fn read_shown<'a>(
     outcome: &'a Outcome,
     shown: &[u8],
     tables: &mut Vec<u64>,
+    began: &'a mut Option<Access>,
 ) -> Result<TraceLine<'a>, AllocError>
     requires { tables.old.items ≡ [] }
     ensures { IfOk result (λ read. (said answered answer : List ℕ)
@@ -135,7 +141,7 @@ fn read_shown<'a>(
         return Ok(TraceLine::Bad);
     }
     let Some(word) = behind(text, b"on ") else {
-        return read_began(alloc, event, outcome, text);
+        return read_began(alloc, event, outcome, text, began);
     };
     let Some(frame) = long_number_of(word) else {
         return Ok(TraceLine::Bad);
@@ -174,7 +180,6 @@ fn read_made(event: &Event, answered: &[u8]) -> TraceLine<'static>
 /// The outcome that is answered, and what stands behind it: nothing but behind `ok` and `accepted N`.
 #[inline(always)]
 fn read_answer<'a, 't>(
-    printed: &mut LineBuffer,
     kept: &'a mut KeptOutcomes,
     event: &Event,
     answered: &'t [u8],
@@ -188,22 +193,22 @@ fn read_answer<'a, 't>(
     if let Some(rest) = behind(answered, b"ok") {
         return Some((kept.done()?, rest));
     }
-    Some((read_outcome(printed, kept, event, answered)?, &[]))
+    Some((kept.tell(event, answered)?, &[]))
 }
 
 /// What the answer to the event says, with what is shown behind it.
 fn read_step<'a>(
     alloc: Global,
-    printed: &mut LineBuffer,
     kept: &'a mut KeptOutcomes,
     event: Event,
     answered: &[u8],
     tables: &mut Vec<u64>,
+    began: &'a mut Option<Access>,
 ) -> Result<TraceLine<'a>, AllocError>
     requires { tables.old.items ≡ [] }
     ensures { (said : List ℕ) → IsEventLine said event → IfOk result (λ read. SaysLine (said ++ codes " => " ++ answered.now) (said_of read) tables.new.items) }
 {
-    match read_answer(printed, kept, &event, answered) {
+    match read_answer(kept, &event, answered) {
         None => Ok(read_made(&event, answered)),
         Some((outcome, [])) => Ok(TraceLine::Step {
             event,
@@ -212,7 +217,7 @@ fn read_step<'a>(
             on: None,
             began: None,
         }),
-        Some((outcome, text)) => read_shown(alloc, event, outcome, text, tables),
+        Some((outcome, text)) => read_shown(alloc, event, outcome, text, tables, began),
     }
 }
 
@@ -234,12 +239,13 @@ fn read_seldom(
     }
 }
 
-/// What the line says, of which the line feed is left out. The first that says something is that of the world.
+/// What the line says, of which the line feed is left out. The first that says something is that of the world. What is large
+/// stands in the places that are lent.
 pub fn read_line<'a>(
     alloc: Global,
-    printed: &mut LineBuffer,
     kept: &'a mut KeptOutcomes,
     tables: &mut Vec<u64>,
+    began: &'a mut Option<Access>,
     has_world: bool,
     line: &[u8],
 ) -> Result<TraceLine<'a>, AllocError>
@@ -250,11 +256,12 @@ pub fn read_line<'a>(
         return Ok(TraceLine::Nothing);
     }
     tables.clear();
-    let (said, answered) = cut(line, b" => ", 1);
+    let arrow = memchr(b'=', line).and_then(|place| place.checked_sub(1));
+    let (said, answered) = cut(line, b" => ", arrow);
     if has_world {
         if let Some(answered) = answered {
             if let Some(event) = event_of(alloc, said)? {
-                return read_step(alloc, printed, kept, event, answered, tables);
+                return read_step(alloc, kept, event, answered, tables, began);
             }
         }
     }

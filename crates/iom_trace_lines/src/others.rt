@@ -6,6 +6,7 @@ ghost use Rattle.iom_trace_lines.specs.TraceLines.{ats_text, said_of, tables_tex
 use crate::trace::{GrantedPages, ReleasedPages, TraceLine};
 use crate::words::{behind, cut, long_number_of, read_frames, short_number_of};
 use iom_script::words::{cut as cut_at, device_and, device_of, is_word, number_and, right_of};
+use memchr::memchr;
 use std::alloc::AllocError;
 
 /// Whether so many from the first on are some, and none of them is beyond what 64 bits say.
@@ -32,7 +33,7 @@ fn pages_of(text: &[u8]) -> Option<(u64, u64)>
 fn cut_ats(text: &[u8]) -> Option<(&[u8], bool)>
     ensures { IfSome result (λ parts. text.now ≡ parts.0.now ++ ats_text parts.1) }
 {
-    let (word, behind) = cut(text, b" ats", 0);
+    let (word, behind) = cut(text, b" ats", memchr(b' ', text));
     match behind {
         None => Some((word, false)),
         Some([]) => Some((word, true)),

@@ -7,6 +7,7 @@ use crate::trace::{TraceLine, WorldLimits};
 use crate::words::cut;
 use iom_script::words::{after, number_and, number_of};
 use iom_script::{WorldSize, world_of};
+use memchr::memchr;
 
 /// Whether a world without limits may be so large. Its device directory has up to three levels.
 fn is_large_size(size: WorldSize) -> bool
@@ -34,7 +35,8 @@ fn large_world_of(line: &[u8]) -> Option<WorldSize>
 fn size_and_limits(said: &[u8]) -> Option<(WorldSize, WorldLimits)>
     ensures { IfSome result (λ read. (sized : List ℕ) × SaysSize read.1 sized read.0 × (said.now ≡ sized ++ limits_text read.1)) }
 {
-    match cut(said, b" unlimited", 1) {
+    let place = memchr(b'u', said).and_then(|place| place.checked_sub(1));
+    match cut(said, b" unlimited", place) {
         (sized, None) => Some((world_of(sized)?, WorldLimits::OfModel)),
         (sized, Some([])) => Some((large_world_of(sized)?, WorldLimits::Unlimited)),
         _ => None,

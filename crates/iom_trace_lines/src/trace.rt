@@ -68,7 +68,7 @@ pub enum TraceLine<'a> {
         outcome: &'a Outcome,
         has_tables: bool,
         on: Option<u64>,
-        began: Option<Access>,
+        began: Option<&'a Access>,
     },
     /// The device's oldest access was made: a read, of bytes that aren't shown, or whatever it is.
     Made {

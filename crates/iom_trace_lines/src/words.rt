@@ -5,20 +5,19 @@ ghost use Rattle.iom_script.specs.Words.{IsNumber};
 ghost use Rattle.iom_trace_lines.specs.TraceLines.{frames_text};
 
 use iom_script::words::{after, leading_number, number_and, number_of};
-use memchr::memchr;
 use std::alloc::AllocError;
 
-/// What stands before the separator and behind it; all, and nothing, where there is none. It is looked for where its byte
-/// at the place first stands: no line of a trace has one before that.
+/// What stands before the separator and behind it, if it stands at this place; else all, and nothing.
 // Written into its caller, where the separator is known.
 #[inline(always)]
-pub(crate) fn cut<'a>(text: &'a [u8], separator: &[u8], by: usize) -> (&'a [u8], Option<&'a [u8]>)
+pub(crate) fn cut<'a>(
+    text: &'a [u8],
+    separator: &[u8],
+    place: Option<usize>,
+) -> (&'a [u8], Option<&'a [u8]>)
     ensures { MatchOption result.1 (text.now ≡ result.0.now) (λ behind. text.now ≡ result.0.now ++ separator.now ++ behind.now) }
 {
-    let Some(place) = separator.get(by).and_then(|byte| memchr(*byte, text)) else {
-        return (text, None);
-    };
-    let (before, rest) = text.split_at(place.saturating_sub(by).min(text.len()));
+    let (before, rest) = text.split_at(place.unwrap_or(text.len()).min(text.len()));
     match behind(rest, separator) {
         None => (text, None),
         found => (before, found),

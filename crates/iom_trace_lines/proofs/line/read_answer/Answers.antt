@@ -14,4 +14,4 @@ pub returns-in-Some-behind : goal.returns-in-Some-behind
 returns-in-Some-behind c = (codes "ok", c.in_ok-done.ensures, c.in-Some-behind.ensures)
 
 pub returns : goal.returns
-returns c = (c.args.answered.now, c.in_ok-read_outcome.ensures, sym (append-nil c.args.answered.now))
+returns c = (c.args.answered.now, c.in_ok-tell.ensures, sym (append-nil c.args.answered.now))

@@ -9,7 +9,7 @@ returns-in-Some-access_of c shown tables begins accepted said answered answer sa
     let asks = c.in-Some.asks in
     let access = c.in-Some-access_of.access in
     let text = c.args.text.now in
-    step_began said answered answer text c.args.event c.args.outcome.now access c.in-Step-Some.on tables says tells
+    rw c.as_ref.ensures.value (step_began said answered answer text c.args.event c.args.outcome.now access c.in-Step-Some.on tables says tells
     (is ∙ ap (λ (l : List ℕ). answer ++ l) begins ∙ sym (append_assoc answer (codes "; ") text)) (
       c.in-Step-Some.device,
       c.in-Step-Some.is-0,
@@ -19,4 +19,4 @@ returns-in-Some-access_of c shown tables begins accepted said answered answer sa
       (c.in_ok-asks.ensures asks).0 c.in-Some.is,
       subst (λ (device : ℕ). EventAsksFor asks device access) c.if-id-device.true c.in-Some-access_of.ensures,
       c.in-Step-Some.ensures,
-    )
+    ))

@@ -1,5 +1,3 @@
-use Rattle.std.proofs.Common.{◌≡◌, Option, IfSome, subst}
-use Rattle.iom_base.specs.declared.access.Access.{Access}
 use Rattle.iom_judge.proofs.CertificateLemmas.{if_ok}
 use Rattle.iom_judge.proofs.machine.TraceMachine.take_said.Goals as goal
 
@@ -13,7 +11,7 @@ returns c text says = rw c.in-Step.is
         record {
           tables_taken = c.where_shown.ensures _ went.1.tables_taken;
           frame = went.1.frame;
-          access = subst (λ (shown : Option Access). IfSome shown (λ access. went.0.access ≡ access)) c.as_ref.ensures.value went.1.access;
+          access = went.1.access;
           returned = went.1.returned;
         },
         went.2.1,
