@@ -4,26 +4,12 @@ use crate::facts::Facts;
 use crate::notes::Sent;
 use crate::pages::{Meant, say_bad_span, say_stale};
 use crate::words::{Said, Words};
-use iom_base::{Access, AccessKind, Cause, DeviceId, PAGE_SIZE, Refusal, Rights, Sequence};
+use iom_base::{Access, AccessKind, DeviceId, PAGE_SIZE, Refusal, Rights, Sequence};
 use iom_fabric::Translation;
 use iom_machine::{Device, Event, Outcome};
 use iom_machine_judge::{questions, requests, through_cache, translated};
+use iom_trace_lines::CAUSES;
 use std::alloc::Global;
-
-/// The causes with which a request may be refused.
-static CAUSES: [Cause; 11] = [
-    Cause::ReadAccessFault,
-    Cause::WriteAccessFault,
-    Cause::ReadPageFault,
-    Cause::WritePageFault,
-    Cause::ReadGuestPageFault,
-    Cause::WriteGuestPageFault,
-    Cause::AllInboundDisallowed,
-    Cause::DirectoryLoadFault,
-    Cause::DirectoryEntryNotValid,
-    Cause::DirectoryEntryMisconfigured,
-    Cause::TransactionTypeDisallowed,
-];
 
 /// By which way a request goes to memory.
 #[derive(Clone, Copy)]
@@ -81,18 +67,6 @@ struct Request<'a> {
     way: Way,
     device: &'a Device,
     access: &'a Access,
-}
-
-/// Says with which causes a device could have been refused what it asked for, behind these words.
-fn could_fault<F: Fn(Cause) -> bool>(words: &mut Words, what: &str, may: F) -> Said
-    requires { F.IsAlwaysCallable may }
-{
-    for cause in CAUSES.iter() {
-        if may(*cause) {
-            words.could(format_args!("{what} {cause}"))?;
-        }
-    }
-    Ok(())
 }
 
 impl Facts<'_> {
@@ -164,24 +138,30 @@ impl Facts<'_> {
         if self.may(request, 0, &Outcome::Miss) {
             words.could("miss")?;
         }
-        could_fault(words, "fault", |cause| {
-            self.may(request, 0, &Outcome::Fault(cause))
-        })
+        for cause in CAUSES.iter() {
+            if self.may(request, 0, &Outcome::Fault(*cause)) {
+                words.could(format_args!("fault {cause}"))?;
+            }
+        }
+        Ok(())
     }
 
-    /// Whether the device may be told so of the page.
-    fn may_tell(&self, device: &Device, page: u64, reply: Translation) -> bool {
-        questions::may_tell(device.attachment, self.kept, device.id, page, reply)
-    }
-
-    /// Says with which rights the frame could have been the answer. No answer names a frame of more than 32 bits.
-    fn could_tell(&self, words: &mut Words, device: &Device, page: u64, frame: u64) -> Said {
-        let Ok(frame) = u32::try_from(frame) else {
-            return Ok(());
+    /// Says what could have been answered to the device's question of the page, where it may find these frames. No answer names one of
+    /// more than 32 bits.
+    fn could_tell(&self, words: &mut Words, device: &Device, page: u64, frames: &[u64]) -> Said {
+        let may_tell = |reply: Translation| {
+            questions::may_tell(device.attachment, self.kept, device.id, page, reply)
         };
-        for rights in [Rights::RW, Rights::R] {
-            if self.may_tell(device, page, Translation::Page { frame, rights }) {
-                words.could(format_args!("answer {frame} {rights}"))?;
+        for frame in frames.iter().filter_map(|frame| u32::try_from(*frame).ok()) {
+            for rights in [Rights::RW, Rights::R] {
+                if may_tell(Translation::Page { frame, rights }) {
+                    words.could(format_args!("answer {frame} {rights}"))?;
+                }
+            }
+        }
+        for cause in CAUSES.iter() {
+            if may_tell(Translation::Refused(*cause)) {
+                words.could(format_args!("answer fault {cause}"))?;
             }
         }
         Ok(())
@@ -208,11 +188,6 @@ impl Facts<'_> {
         }
         let mut frames = Vec::new(words.alloc);
         self.add_frames(&mut frames, meant, |_frame| true)?;
-        for frame in frames.iter() {
-            self.could_tell(words, device, page, *frame)?;
-        }
-        could_fault(words, "answer fault", |cause| {
-            self.may_tell(device, page, Translation::Refused(cause))
-        })
+        self.could_tell(words, device, page, &frames)
     }
 }

@@ -5,11 +5,14 @@ use crate::past::Release;
 use crate::words::{InLine, MOST_SAID, Said, Under, Words, name_of};
 use iom_base::{AcceptedAccess, AccessKind, DeviceId, PAGE_SIZE, Refusal};
 use iom_machine::{Attachment, Device, Outcome};
-use std::alloc::AllocError;
+use std::alloc::{AllocError, Global};
 use std::ops::RangeInclusive;
 
 /// Tickets, from the first to the last.
 type Tickets = RangeInclusive<u32>;
+
+/// An access in flight: whose it is, its index there, and its frame.
+type Stray = (DeviceId, usize, u64);
 
 /// Says with which number the device's next access is accepted, where the line shows another one.
 pub(crate) fn say_next(words: &mut Words, device: &Device, outcome: &Outcome) -> Said {
@@ -95,13 +98,17 @@ impl Facts<'_> {
         grants.may_once(id, page, frame, kind, first, last)
     }
 
-    /// Whether each access in flight may be where the tickets up to the last are confirmed.
-    fn may_confirm(&self, last: u32) -> bool {
-        let mut devices = self.kept.devices.as_slice().iter();
-        devices.all(|device| {
-            let mut flights = device.in_flight.as_slice().iter();
-            flights.all(|flight| self.may_fly(device.id, flight, &(1..=last)))
-        })
+    /// The accesses in flight that may not be where these tickets are confirmed.
+    fn strays(&self, alloc: Global, tickets: &Tickets) -> Result<Vec<Stray>, AllocError> {
+        let mut strays = Vec::new(alloc);
+        for device in self.kept.devices.as_slice() {
+            for (index, flight) in device.in_flight.as_slice().iter().enumerate() {
+                if !self.may_fly(device.id, flight, tickets) {
+                    strays.push((device.id, index, flight.frame))?;
+                }
+            }
+        }
+        Ok(strays)
     }
 
     /// Says what could have been confirmed. Where a ticket may be, those before it may.
@@ -112,7 +119,7 @@ impl Facts<'_> {
         }
         let first = self.kept.grants.confirmed.saturating_add(1);
         for last in (first..=self.kept.grants.given).rev() {
-            if self.may_confirm(last) {
+            if self.strays(words.alloc, &(1..=last))?.is_empty() {
                 return words.could(format_args!("confirmed {first}-{last}"));
             }
         }
@@ -140,33 +147,6 @@ impl Facts<'_> {
         }
     }
 
-    /// Says which accesses of the device may not be in flight, were these tickets confirmed, and why. So many were found before; how
-    /// many are then.
-    fn say_strays(
-        &self,
-        words: &mut Words,
-        device: &Device,
-        tickets: &Tickets,
-        mut count: usize,
-    ) -> Result<usize, AllocError> {
-        let (id, flights) = (device.id, device.in_flight.as_slice());
-        for (index, flight) in flights.iter().enumerate() {
-            if self.may_fly(id, flight, tickets) {
-                continue;
-            }
-            if count < MOST_SAID {
-                let (frame, line) = (flight.frame, self.notes.past.accepted(id, index));
-                let accepted = InLine("accepted", line);
-                words.say(format_args!(
-                    "an access of {id:06x} is in flight on frame {frame}{accepted}"
-                ))?;
-                self.say_release(words, id, frame, tickets)?;
-            }
-            count = count.saturating_add(1);
-        }
-        Ok(count)
-    }
-
     /// Says what is in flight that a confirmation may not leave so, which is one of all tickets where the line shows none, and
     /// which ticket is the last.
     pub(crate) fn say_poll(&self, words: &mut Words, outcome: &Outcome) -> Said {
@@ -175,11 +155,15 @@ impl Facts<'_> {
             Outcome::Confirmed { first, last, .. } => *first..=*last,
             _ => 1..=given,
         };
-        let mut count = 0;
-        for device in self.kept.devices.as_slice() {
-            count = self.say_strays(words, device, &tickets, count)?;
+        let strays = self.strays(words.alloc, &tickets)?;
+        for (id, index, frame) in strays.iter().take(MOST_SAID) {
+            let accepted = InLine("accepted", self.notes.past.accepted(*id, *index));
+            words.say(format_args!(
+                "an access of {id:06x} is in flight on frame {frame}{accepted}"
+            ))?;
+            self.say_release(words, *id, *frame, &tickets)?;
         }
-        words.say_more(count)?;
+        words.say_more(strays.len())?;
         words.say(format_args!("the last ticket that was given is {given}"))?;
         self.could_confirm(words)
     }

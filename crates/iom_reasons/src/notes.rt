@@ -45,13 +45,6 @@ impl Messages {
         Ok(())
     }
 
-    /// A question of the device goes last: for this page, where that is known.
-    fn ask(&mut self, device: DeviceId, page: Option<u64>) -> Said
-        ensures { OnOk result (self.new.under_way.items ≡ sent (Some (record { device = device; page = page })) self.old.under_way.items) }
-    {
-        self.send(Some(Sent { device, page }))
-    }
-
     /// The message at the place is under way no more.
     fn take(&mut self, place: u64)
         ensures { self.new.under_way.items ≡ remove self.old.under_way.items place }
@@ -67,9 +60,13 @@ impl Messages {
         ensures { OnOk result (self.new.under_way.items ≡ after event.now outcome.now self.old.under_way.items) }
     {
         match (event, outcome) {
-            (Event::Ask { device, page }, Outcome::Sent) => self.ask(*device, Some(page.number())),
+            (Event::Ask { device, page }, Outcome::Sent) => {
+                let (device, page) = (*device, Some(page.number()));
+                self.send(Some(Sent { device, page }))
+            }
             (Event::Step { device }, Outcome::Stepped(BlockStep::Asked)) => {
-                self.ask(*device, None)
+                let (device, page) = (*device, None);
+                self.send(Some(Sent { device, page }))
             }
             (Event::Forge { .. }, Outcome::Sent)
             // the request to invalidate

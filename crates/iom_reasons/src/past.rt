@@ -142,26 +142,19 @@ impl Past {
         Ok(())
     }
 
-    /// The line confirms the ticket of the page's release. The page that was released right before it under the same ticket.
-    fn confirm_page(&mut self, place: Place, line: u64) -> Option<Place> {
-        let release = self.last.get_mut(&place)?.release.as_mut()?;
-        release.confirmed = Some(line);
-        release.shared
-    }
-
     /// The line confirms the ticket: for all pages that share it, or for the device that left under it.
     fn confirm(&mut self, ticket: u32, line: u64) {
         let mut next = self.pending.swap_remove(&ticket);
-        if next.is_none() {
-            if let Some((_device, release)) = self.leaves.get_mut(&ticket) {
-                release.confirmed = Some(line);
-            }
+        if let (None, Some((_device, release))) = (next, self.leaves.get_mut(&ticket)) {
+            release.confirmed = Some(line);
         }
         for _ in 0..self.last.len() {
-            let Some(place) = next else {
+            let stay = next.and_then(|place| self.last.get_mut(&place));
+            let Some(release) = stay.and_then(|stay| stay.release.as_mut()) else {
                 return;
             };
-            next = self.confirm_page(place, line);
+            release.confirmed = Some(line);
+            next = release.shared;
         }
     }
 
@@ -169,8 +162,9 @@ impl Past {
     fn accept(&mut self, device: DeviceId, line: u64) -> Said {
         let alloc = self.alloc;
         let lines = self.flights.entry(device)?;
-        let lines = lines.or_insert_with(|| VecDeque::new(alloc));
-        lines.push_back(line)?;
+        lines
+            .or_insert_with(|| VecDeque::new(alloc))
+            .push_back(line)?;
         Ok(())
     }
 
