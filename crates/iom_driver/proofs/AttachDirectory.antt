@@ -12,7 +12,7 @@ use Rattle.iom_directory_build.specs.Pages.{IsDirectory, HasPage, HasWholePath, 
 use Rattle.iom_phys_mem.specs.Words.{zeroed}
 use Rattle.iom_driver.specs.declared.device.Device.{Device}
 use Rattle.iom_driver.specs.declared.device.Stages.{Stages}
-use Rattle.iom_driver.specs.Choices.{AreHighestFree, marked_for, cleared}
+use Rattle.iom_driver.specs.Choices.{AreHighestFree, owned_by, cleared}
 use Rattle.iom_driver.specs.Attaching.{IsRootBelow, root_frames, limit_below}
 use Rattle.iom_driver.specs.declared.device.Attachment.TheVariants.{Attached}
 use Rattle.iom_driver.specs.Devices.{attachment_by_id, stages_of}
@@ -23,7 +23,7 @@ use Rattle.iom_driver.specs.Invariant.{StateInvariant}
 use Rattle.iom_driver.specs.State.{DriverState}
 use Rattle.iom_driver.proofs.AttachRoots.{taken_so}
 use Rattle.iom_driver.proofs.Directories.{DirectoryIn, directory_stay, directory_put, in_stands}
-use Rattle.iom_driver.proofs.Owners.{Among, NotAmong, among_get, among_not, among_left, among_right, apart_either, not_among_left, all_among, among_contained, not_contained, length-cleared, length-marked_for, mark_stays, bytes_stay, marked_among, zero_among}
+use Rattle.iom_driver.proofs.Owners.{Among, NotAmong, among_get, among_not, among_left, among_right, apart_either, not_among_left, all_among, among_contained, not_contained, length-cleared, length-owned_by, mark_stays, bytes_stay, marked_among, zero_among}
 use Rattle.iom_driver.proofs.StandingLemmas.{pages_stay}
 use Rattle.iom_driver.proofs.Taken.{unmarked, owned_differs, owned_not_taken, taken_owners, taken_stays, AreTaken, taken_inside, taken_free}
 
@@ -161,10 +161,10 @@ module _ (d : DriverState) (frames : ℕ) (memory : List (List ℕ)) (id count :
     pub roots_new : (f : ℕ) → Among f roots → (slice_get memory' f ≡ Some zeroed) × (slice_get owners' f ≡ Some (Some (OneDevice id)))
     roots_new f here =
         let all = among_right f pages roots here in
-        let long : length (marked_for System pages d.owners) ≡ frames = length-marked_for System pages d.owners ∙ may.marked in (
+        let long : length (owned_by System pages d.owners) ≡ frames = length-owned_by System pages d.owners ∙ may.marked in (
           put_keeps f (page_apart f all) (may.taken.apart f here) ∙ taken_zero f all,
-          marked_among (OneDevice id) f roots (marked_for System pages d.owners)
-              (all_among (λ n. n < length (marked_for System pages d.owners)) roots (λ n at. subst (λ m. n < m) (sym long) (may.taken.inside n at))) here,
+          marked_among (OneDevice id) f roots (owned_by System pages d.owners)
+              (all_among (λ n. n < length (owned_by System pages d.owners)) roots (λ n at. subst (λ m. n < m) (sym long) (may.taken.inside n at))) here,
         )
 
     -- a new page is the system's
@@ -173,7 +173,7 @@ module _ (d : DriverState) (frames : ℕ) (memory : List (List ℕ)) (id count :
         let here = among_contained f pages new in
         let free = taken_unmarked f (among_left f pages roots here) in
         record {
-          system = mark_stays (OneDevice id) f roots (marked_for System pages d.owners) (apart_either pages roots may.taken.apart f here)
+          system = mark_stays (OneDevice id) f roots (owned_by System pages d.owners) (apart_either pages roots may.taken.apart f here)
               ∙ marked_among System f pages d.owners (λ k d lt. subst (λ n. get_or pages k d < n) (sym may.marked) (may.taken.chosen.inside k d lt)) here;
           no_command = λ same. owned_differs d.owners (frames - 1) f System may.fixed.command free (sym same);
           no_fault = λ same. owned_differs d.owners (frames - 2) f System may.fixed.fault free (sym same);

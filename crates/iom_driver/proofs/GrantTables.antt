@@ -27,11 +27,11 @@ use Rattle.iom_base.specs.declared.size.Size.TheVariants.{Sv39, Sv48}
 use Rattle.iom_base.specs.Sizes.{levels_of, page_limit_of, table_limit_of}
 use Rattle.iom_base.specs.declared.owner.Owner.{Owner}
 use Rattle.iom_base.specs.declared.owner.Owner.TheVariants.{OneDevice}
-use Rattle.iom_table_frames.specs.Owners.{IsFreeForTable, is_marked}
+use Rattle.iom_table_frames.specs.Owners.{IsFreeForTable, has_owner}
 use Rattle.iom_driver.specs.declared.device.Device.{Device}
 use Rattle.iom_driver.specs.declared.device.Stages.{Stages}
 use Rattle.iom_driver.specs.Calls.{KeepsOtherFrames}
-use Rattle.iom_driver.specs.Choices.{marked_for, cleared}
+use Rattle.iom_driver.specs.Choices.{owned_by, cleared}
 use Rattle.iom_driver.specs.Devices.{owned_stages_of}
 use Rattle.iom_driver.specs.Tables.{AreTablesOf, HaveTables, leaf_for}
 use Rattle.iom_driver.proofs.Chosen.{AreChosen}
@@ -83,7 +83,7 @@ missing_few Sv39 memory root page = let few : missing_for Sv39 memory root page 
 missing_few Sv48 memory root page = missing_limit Sv48 memory root page
 
 -- a frame that is free for a table is none of a device's tables
-not_a_table : (memory : List (List ℕ)) (owners : List (Option Owner)) (ledger : Ledger) (id : ℕ) (mode : Mode) (root f : ℕ) → AreTablesOf memory owners ledger id mode root → is_marked owners f ≡ false → IsFrameOf (shape_of (size_in mode)) (entries memory) root f → ⊥
+not_a_table : (memory : List (List ℕ)) (owners : List (Option Owner)) (ledger : Ledger) (id : ℕ) (mode : Mode) (root f : ℕ) → AreTablesOf memory owners ledger id mode root → has_owner owners f ≡ false → IsFrameOf (shape_of (size_in mode)) (entries memory) root f → ⊥
 not_a_table memory owners ledger id mode root f tables free at =
     contra (sym (ap (λ (o : Option (Option Owner)). option_map_or (λ m. is_some m) o false) (tables.own f (table_in mode memory root f (inl at)))) ∙ free)
   where
@@ -132,10 +132,10 @@ pub record IsMapped (size : Size) (memory memory' : List (List ℕ)) (root page 
 -- each frame of the mapped tables is the device's
 mapped_own : (memory memory' : List (List ℕ)) (owners : List (Option Owner)) (ledger : Ledger) (id : ℕ) (mode : Mode) (root page named count : ℕ) (leaf : PageLeaf) (chosen : List ℕ) → length owners ≡ length memory
     → AreTablesOf memory owners ledger id mode root
-    → AreChosen owners ledger (Some named) (length memory) count chosen → IsMapped (size_in mode) (cleared chosen memory) memory' root page leaf chosen → (f : ℕ) → HasTable (size_in mode) memory' root f → slice_get (marked_for (OneDevice id) chosen owners) f ≡ Some (Some (OneDevice id))
+    → AreChosen owners ledger (Some named) (length memory) count chosen → IsMapped (size_in mode) (cleared chosen memory) memory' root page leaf chosen → (f : ℕ) → HasTable (size_in mode) memory' root f → slice_get (owned_by (OneDevice id) chosen owners) f ≡ Some (Some (OneDevice id))
 mapped_own memory memory' owners ledger id mode root page named count leaf chosen long tables chose mapped f at = by ((mapped.tables f).0 at)
   where
-    by : HasTable (size_in mode) (cleared chosen memory) root f ⊎ Contains chosen f → slice_get (marked_for (OneDevice id) chosen owners) f ≡ Some (Some (OneDevice id))
+    by : HasTable (size_in mode) (cleared chosen memory) root f ⊎ Contains chosen f → slice_get (owned_by (OneDevice id) chosen owners) f ≡ Some (Some (OneDevice id))
     by (inl was) = marked_still (OneDevice id) f chosen owners
         (tables.own f (table_in mode memory root f (inl (((unchanged (size_in mode) memory (cleared chosen memory) root (rooted mode memory root tables.tree).tree (table_bytes memory owners ledger id mode root named chosen tables chose.free)).tables f).0 was))))
     by (inr new) = marked_among (OneDevice id) f chosen owners (λ k d lt. subst (λ n. get_or chosen k d < n) (sym long) (chose.inside k d lt)) (among_contained f chosen new)
@@ -144,7 +144,7 @@ mapped_own memory memory' owners ledger id mode root page named count leaf chose
 pub mapped_others : (memory memory' : List (List ℕ)) (owners : List (Option Owner)) (ledger : Ledger) (id : ℕ) (mode : Mode) (root page named count n : ℕ) (leaf : PageLeaf) (chosen : List ℕ) → length owners ≡ length memory
     → AreTablesOf memory owners ledger id mode root
     → AreChosen owners ledger (Some named) (length memory) count chosen → IsMapped (size_in mode) (cleared chosen memory) memory' root page leaf chosen
-    → (slice_get (marked_for (OneDevice id) chosen owners) n ≡ Some (Some (OneDevice id)) → ⊥) → slice_get memory' n ≡ slice_get (cleared chosen memory) n
+    → (slice_get (owned_by (OneDevice id) chosen owners) n ≡ Some (Some (OneDevice id)) → ⊥) → slice_get memory' n ≡ slice_get (cleared chosen memory) n
 mapped_others memory memory' owners ledger id mode root page named count n leaf chosen long tables chose mapped differs =
     mapped.outside n (λ at. differs (mapped_own memory memory' owners ledger id mode root page named count leaf chosen long tables chose mapped n at))
 
@@ -152,11 +152,11 @@ mapped_others memory memory' owners ledger id mode root page named count n leaf 
 pub others_kept : (memory memory' : List (List ℕ)) (owners : List (Option Owner)) (ledger : Ledger) (id : ℕ) (mode : Mode) (root page named count : ℕ) (leaf : PageLeaf) (chosen : List ℕ) → length owners ≡ length memory
     → AreTablesOf memory owners ledger id mode root
     → AreChosen owners ledger (Some named) (length memory) count chosen → IsMapped (size_in mode) (cleared chosen memory) memory' root page leaf chosen
-    → KeepsOtherFrames (marked_for (OneDevice id) chosen owners) id memory memory'
+    → KeepsOtherFrames (owned_by (OneDevice id) chosen owners) id memory memory'
 others_kept memory memory' owners ledger id mode root page named count leaf chosen long tables chose mapped f differs =
     let inside : All (λ n. n < length owners) chosen = λ k d lt. subst (λ n. get_or chosen k d < n) (sym long) (chose.inside k d lt) in
     mapped_others memory memory' owners ledger id mode root page named count f leaf chosen long tables chose mapped differs
-    ∙ bytes_stay f chosen memory (not_among (λ n. slice_get (marked_for (OneDevice id) chosen owners) n ≡ Some (Some (OneDevice id))) f chosen
+    ∙ bytes_stay f chosen memory (not_among (λ n. slice_get (owned_by (OneDevice id) chosen owners) n ≡ Some (Some (OneDevice id))) f chosen
     (λ k d lt. marked_among (OneDevice id) (get_or chosen k d) chosen owners inside (among_get chosen k d lt)) differs)
 
 -- each table that was is where it was
@@ -196,15 +196,15 @@ mapped_is size memory before after root page leaf granted clears maps chosen who
 pub tables_granted : (memory memory' : List (List ℕ)) (owners : List (Option Owner)) (old new : Ledger) (devices : List Device) (id page frame count : ℕ) (rights : Rights) (stage : Stages) (chosen : List ℕ)
     → length owners ≡ length memory → HaveTables memory owners old devices → owned_stages_of devices id ≡ Some stage → page < page_limit_of (size_in stage.mode)
     → changes.ShowsGrant old new id page (frame, rights) → AreChosen owners old (Some frame) (length memory) count chosen
-    → IsMapped (size_in stage.mode) (cleared chosen memory) memory' stage.root page (record { frame = frame; rights = rights }) chosen → HaveTables memory' (marked_for (OneDevice id) chosen owners) new devices
+    → IsMapped (size_in stage.mode) (cleared chosen memory) memory' stage.root page (record { frame = frame; rights = rights }) chosen → HaveTables memory' (owned_by (OneDevice id) chosen owners) new devices
 tables_granted memory memory' owners old new devices id page frame count rights stage chosen long tables attached low granted chose mapped other found at =
     elim (eqb_tells other id) [
       | inl e ↦
           let both : Some stage ≡ Some found = sym attached ∙ ap (λ i. owned_stages_of devices i) (sym e.1) ∙ at in
           let same : stage ≡ found = cc in
-          subst (λ i. AreTablesOf memory' (marked_for (OneDevice id) chosen owners) new i found.mode found.root) (sym e.1)
-          (subst (λ (s : Stages). AreTablesOf memory' (marked_for (OneDevice id) chosen owners) new id s.mode s.root) same own_tables)
-      | inr ne ↦ tables_stay memory memory' owners (marked_for (OneDevice id) chosen owners) old new other found.mode found.root (tables other found at)
+          subst (λ i. AreTablesOf memory' (owned_by (OneDevice id) chosen owners) new i found.mode found.root) (sym e.1)
+          (subst (λ (s : Stages). AreTablesOf memory' (owned_by (OneDevice id) chosen owners) new id s.mode s.root) same own_tables)
+      | inr ne ↦ tables_stay memory memory' owners (owned_by (OneDevice id) chosen owners) old new other found.mode found.root (tables other found at)
           (λ n mark. (
             kept_others memory memory' owners old id stage.mode stage.root page frame count n (record { frame = frame; rights = rights }) chosen (OneDevice other) long before chose mapped mark (λ same. ne.1 (one_id other same)),
             mark_stays (OneDevice id) n chosen owners (not_chosen memory owners old frame count n chosen (OneDevice other) long chose mark),
@@ -232,7 +232,7 @@ tables_granted memory memory' owners old new devices id page frame count rights 
     unchosen : (f : ℕ) → Among f (rest stage.mode stage.root) → NotAmong f chosen
     unchosen f here = not_chosen memory owners old frame count f chosen (OneDevice id) long chose (before.own f (table_in stage.mode memory stage.root f (inr here)))
 
-    own_tables : AreTablesOf memory' (marked_for (OneDevice id) chosen owners) new id stage.mode stage.root
+    own_tables : AreTablesOf memory' (owned_by (OneDevice id) chosen owners) new id stage.mode stage.root
     own_tables =
         let was = rooted stage.mode memory stage.root before.tree in
         let stay = unchanged (size_in stage.mode) memory (cleared chosen memory) stage.root was.tree (table_bytes memory owners old id stage.mode stage.root frame chosen before chose.free) in

@@ -18,7 +18,7 @@ use Rattle.iom_driver.specs.declared.device.Attachment.{Attachment}
 use Rattle.iom_driver.specs.declared.device.Attachment.TheVariants.{Attached, Quarantined, Leaving}
 use Rattle.iom_driver.specs.declared.device.Device.{Device}
 use Rattle.iom_driver.specs.declared.device.Stages.{Stages}
-use Rattle.iom_driver.specs.Choices.{marked_for}
+use Rattle.iom_driver.specs.Choices.{owned_by}
 use Rattle.iom_driver.specs.Confirmed.{driven_once_confirmed, owner_given_back}
 use Rattle.iom_driver.specs.Devices.{device_by_id, attachment_by_id, attached_stages, owned_stages, stages_of, owned_stages_of, has_device, detached, with_attachment, IsLowestNumber}
 use Rattle.iom_driver.specs.Layout.{AreFixed}
@@ -26,7 +26,7 @@ use Rattle.iom_base.specs.DeviceIds.{id_limit}
 use Rattle.iom_driver.specs.Invariant.{IsGrant, AreGrants, AreFences, StateInvariant, RiseBetween}
 use Rattle.iom_driver.proofs.Gone.{attachment_confirmed, stage_confirmed, still_owned, still_leaving, still_quarantined, detached_after, ids_confirmed, unmarked_back, marked_back}
 use Rattle.iom_driver.proofs.Ids.{ids_with, ids_plugged}
-use Rattle.iom_driver.proofs.Owners.{NotAmong, not_among, all_among, mark_stays, length-marked_for}
+use Rattle.iom_driver.proofs.Owners.{NotAmong, not_among, all_among, mark_stays, length-owned_by}
 use Rattle.iom_driver.proofs.Numbers.{numbers_attached}
 use Rattle.iom_driver.proofs.Places.{attachment_set, attachment_other, attachment_plugged, attached_there, attached_owns, length-with_attachment}
 use Rattle.iom_driver.proofs.Taken.{unmarked, owned_differs, taken_owners, length-taken, taken_stays, AreTaken, owned_not_taken, taken_free}
@@ -276,7 +276,7 @@ here_or_there id page device p pair held found is = by ((id == device) && (page 
 
 grants_more : (owners : List (Option Owner)) (old new : Ledger) (id page frame : ℕ) (rights : Rights) (tables : List ℕ)
     → AreGrants owners old → ShowsGrant old new id page (frame, rights) → page < page_limit_of Sv48 → slice_get owners frame ≡ Some None → All (λ f. IsFreeForTable owners old (Some frame) f) tables
-    → AreGrants (marked_for (OneDevice id) tables owners) new
+    → AreGrants (owned_by (OneDevice id) tables owners) new
 grants_more owners old new id page frame rights tables grants granted low unreserved free = record {
   held = λ device p f r held. by_held device p f r held (here_or_there id page device p (frame, rights) (held_in old device p) (held_in new device p) (granted.held device p));
   lingering = λ device p f r lingers.
@@ -285,17 +285,17 @@ grants_more owners old new id page frame rights tables grants granted low unrese
       record { page_low = grant.page_low; unreserved = mark_stays (OneDevice id) f tables owners (not_among (λ t. IsFreeForTable owners old (Some frame) t) f tables free (λ is_free. (is_free.ungranted device p r).1 was)) ∙ grant.unreserved };
 }
   where
-    own_frame : slice_get (marked_for (OneDevice id) tables owners) frame ≡ Some None
+    own_frame : slice_get (owned_by (OneDevice id) tables owners) frame ≡ Some None
     own_frame = mark_stays (OneDevice id) frame tables owners (not_among (λ t. IsFreeForTable owners old (Some frame) t) frame tables free (λ is_free. is_free.other refl)) ∙ unreserved
 
     by_held : (device p f : ℕ) (r : Rights) → held_in new device p ≡ Some (f, r)
         → ((id ≡ device) × (page ≡ p) × (held_in new device p ≡ Some (frame, rights))) ⊎ ((((id ≡ device) × (page ≡ p)) → ⊥) × (held_in new device p ≡ held_in old device p))
-        → IsGrant (marked_for (OneDevice id) tables owners) p f
+        → IsGrant (owned_by (OneDevice id) tables owners) p f
     by_held device p f r held (inl now) =
         let pairs : ◌≡◌ {A = Option Pair} (Some (frame, rights)) (Some (f, r)) = sym now.2 ∙ held in
         let pair : ◌≡◌ {A = Pair} (frame, rights) (f, r) = cc in
         let same : frame ≡ f = ap (λ (q : Pair). q.0) pair in
-        record { page_low = subst (λ n. n < page_limit_of Sv48) now.1 low; unreserved = subst (λ n. slice_get (marked_for (OneDevice id) tables owners) n ≡ Some None) same own_frame }
+        record { page_low = subst (λ n. n < page_limit_of Sv48) now.1 low; unreserved = subst (λ n. slice_get (owned_by (OneDevice id) tables owners) n ≡ Some None) same own_frame }
     by_held device p f r held (inr was) =
         let before = sym was.1 ∙ held in
         let grant = grants.held device p f r before in
@@ -304,10 +304,10 @@ grants_more owners old new id page frame rights tables grants granted low unrese
 pub sound_granted : (old new : Ledger) (owners : List (Option Owner)) (devices : List Device) (frames levels : ℕ) (started : Bool) (given confirmed restarts restarted id page frame : ℕ) (rights : Rights) (stage : Stages) (tables : List ℕ)
     → StateInvariant old owners devices frames levels started given confirmed restarts restarted → ShowsGrant old new id page (frame, rights) → stages_of devices id ≡ Some stage
     → page < page_limit_of Sv48 → slice_get owners frame ≡ Some None → All (λ f. f < length owners) tables → All (λ f. IsFreeForTable owners old (Some frame) f) tables
-    → StateInvariant new (marked_for (OneDevice id) tables owners) devices frames levels started given confirmed restarts restarted
+    → StateInvariant new (owned_by (OneDevice id) tables owners) devices frames levels started given confirmed restarts restarted
 sound_granted old new owners devices frames levels started given confirmed restarts restarted id page frame rights stage tables invariants granted attached low unreserved inside free = record {
-  sizes = record { marked = length-marked_for (OneDevice id) tables owners ∙ invariants.sizes.marked; size = invariants.sizes.size; in_range = invariants.sizes.in_range };
-  fixed = fixed_stay owners (marked_for (OneDevice id) tables owners) frames
+  sizes = record { marked = length-owned_by (OneDevice id) tables owners ∙ invariants.sizes.marked; size = invariants.sizes.size; in_range = invariants.sizes.in_range };
+  fixed = fixed_stay owners (owned_by (OneDevice id) tables owners) frames
       (λ n system. mark_stays (OneDevice id) n tables owners (not_among (λ t. (t < length owners) × IsFreeForTable owners old (Some frame) t) n tables (λ k d lt. (inside k d lt, free k d lt))
       (λ is_free. owned_differs owners n n System system (unmarked owners n is_free.0 is_free.1.unmarked) refl))) invariants.fixed;
   grants = grants_more owners old new id page frame rights tables invariants.grants granted low unreserved free;

@@ -4,7 +4,7 @@ use Rattle.std.proofs.lemmas.List.{length-set}
 use Rattle.std.proofs.lemmas.Bool.Decides.{eqb_tells}
 use Rattle.iom_phys_mem.specs.Words.{zeroed}
 use Rattle.iom_base.specs.declared.owner.Owner.{Owner}
-use Rattle.iom_driver.specs.Choices.{marked_for, cleared}
+use Rattle.iom_driver.specs.Choices.{owned_by, cleared}
 use Rattle.iom_driver.proofs.Lists.{get_set_same, get_set_other, get_within}
 
 -- the number is none of the list
@@ -88,16 +88,16 @@ pub apart_either : (fs gs : List ℕ) → ((f : ℕ) → Among f gs → NotAmong
 apart_either fs gs apart n here =
     not_among (λ f. Among f fs → ⊥) n gs (all_among (λ f. Among f fs → ⊥) gs (λ f other. among_not f fs (apart f other))) (λ none. none here)
 
-pub length-marked_for : (owner : Owner) (fs : List ℕ) (owners : List (Option Owner)) → length (marked_for owner fs owners) ≡ length owners
-length-marked_for owner [] owners = refl
-length-marked_for owner (f ∷ fs) owners = length-marked_for owner fs (slice_set owners f (Some owner)) ∙ length-set owners f (Some owner)
+pub length-owned_by : (owner : Owner) (fs : List ℕ) (owners : List (Option Owner)) → length (owned_by owner fs owners) ≡ length owners
+length-owned_by owner [] owners = refl
+length-owned_by owner (f ∷ fs) owners = length-owned_by owner fs (slice_set owners f (Some owner)) ∙ length-set owners f (Some owner)
 
 pub length-cleared : (fs : List ℕ) (memory : List (List ℕ)) → length (cleared fs memory) ≡ length memory
 length-cleared [] memory = refl
 length-cleared (f ∷ fs) memory = length-cleared fs (slice_set memory f zeroed) ∙ length-set memory f zeroed
 
 -- another frame keeps its mark, and its bytes
-pub mark_stays : (owner : Owner) (n : ℕ) (fs : List ℕ) (owners : List (Option Owner)) → NotAmong n fs → slice_get (marked_for owner fs owners) n ≡ slice_get owners n
+pub mark_stays : (owner : Owner) (n : ℕ) (fs : List ℕ) (owners : List (Option Owner)) → NotAmong n fs → slice_get (owned_by owner fs owners) n ≡ slice_get owners n
 mark_stays owner n [] owners other = refl
 mark_stays owner n (f ∷ fs) owners other = mark_stays owner n fs (slice_set owners f (Some owner)) other.1 ∙ get_set_other owners f n (Some owner) other.0
 
@@ -106,7 +106,7 @@ bytes_stay n [] memory other = refl
 bytes_stay n (f ∷ fs) memory other = bytes_stay n fs (slice_set memory f zeroed) other.1 ∙ get_set_other memory f n zeroed other.0
 
 -- a frame that is marked so, or is one of the list, is marked so afterwards
-pub marked_still : (owner : Owner) (n : ℕ) (fs : List ℕ) (owners : List (Option Owner)) → slice_get owners n ≡ Some (Some owner) → slice_get (marked_for owner fs owners) n ≡ Some (Some owner)
+pub marked_still : (owner : Owner) (n : ℕ) (fs : List ℕ) (owners : List (Option Owner)) → slice_get owners n ≡ Some (Some owner) → slice_get (owned_by owner fs owners) n ≡ Some (Some owner)
 marked_still owner n [] owners own = own
 marked_still owner n (f ∷ fs) owners own =
     marked_still owner n fs (slice_set owners f (Some owner))
@@ -116,7 +116,7 @@ marked_still owner n (f ∷ fs) owners own =
       | inr ne ↦ get_set_other owners f n (Some owner) ne.1 ∙ own
     ])
 
-pub marked_among : (owner : Owner) (n : ℕ) (fs : List ℕ) (owners : List (Option Owner)) → All (λ f. f < length owners) fs → Among n fs → slice_get (marked_for owner fs owners) n ≡ Some (Some owner)
+pub marked_among : (owner : Owner) (n : ℕ) (fs : List ℕ) (owners : List (Option Owner)) → All (λ f. f < length owners) fs → Among n fs → slice_get (owned_by owner fs owners) n ≡ Some (Some owner)
 marked_among owner n [] owners inside here = absurd here
 marked_among owner n (f ∷ fs) owners inside (inl same) =
     marked_still owner n fs (slice_set owners f (Some owner))

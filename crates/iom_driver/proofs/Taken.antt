@@ -3,17 +3,17 @@ use Rattle.std.proofs.Common.{◌≡◌, ◌≢◌, ◌<◌, ◌∙◌, inl, inr
 use Rattle.iom_base.specs.declared.owner.Owner.{Owner}
 use Rattle.iom_base.specs.declared.owner.Owner.TheVariants.{OneDevice, System}
 use Rattle.iom_ledger.specs.declared.ledger.Ledger.{Ledger}
-use Rattle.iom_table_frames.specs.Owners.{is_marked, IsFreeForTable}
-use Rattle.iom_driver.specs.Choices.{marked_for}
+use Rattle.iom_table_frames.specs.Owners.{has_owner, IsFreeForTable}
+use Rattle.iom_driver.specs.Choices.{owned_by}
 use Rattle.iom_driver.proofs.Chosen.{AreChosen}
 use Rattle.iom_driver.proofs.Lists.{get_there}
-use Rattle.iom_driver.proofs.Owners.{Among, NotAmong, not_among, not_among_left, not_among_right, among_either, among_all, all_among, length-marked_for, mark_stays}
+use Rattle.iom_driver.proofs.Owners.{Among, NotAmong, not_among, not_among_left, not_among_right, among_either, among_all, all_among, length-owned_by, mark_stays}
 
 -- a frame that isn't marked has no mark
-pub unmarked : (owners : List (Option Owner)) (n : ℕ) → n < length owners → is_marked owners n ≡ false → slice_get owners n ≡ Some None
+pub unmarked : (owners : List (Option Owner)) (n : ℕ) → n < length owners → has_owner owners n ≡ false → slice_get owners n ≡ Some None
 unmarked owners n lt free = by (get_there owners n lt) free
   where
-    by : (m : Option Owner) × (slice_get owners n ≡ Some m) → is_marked owners n ≡ false → slice_get owners n ≡ Some None
+    by : (m : Option Owner) × (slice_get owners n ≡ Some m) → has_owner owners n ≡ false → slice_get owners n ≡ Some None
     by (None, at) free = at
     by (Some owner, at) free = absurd (contra (rw at at free))
       where
@@ -34,15 +34,15 @@ owned_not_chosen owners ledger named limit count n chosen owner long chose mark 
 
 -- the marks: the pages are the system's, and the root's frames the device's
 abbrev pub taken_owners : ℕ → List ℕ → List ℕ → List (Option Owner) → List (Option Owner)
-taken_owners id pages roots owners = marked_for (OneDevice id) roots (marked_for System pages owners)
+taken_owners id pages roots owners = owned_by (OneDevice id) roots (owned_by System pages owners)
 
 pub length-taken : (id : ℕ) (pages roots : List ℕ) (owners : List (Option Owner)) → length (taken_owners id pages roots owners) ≡ length owners
-length-taken id pages roots owners = length-marked_for (OneDevice id) roots (marked_for System pages owners) ∙ length-marked_for System pages owners
+length-taken id pages roots owners = length-owned_by (OneDevice id) roots (owned_by System pages owners) ∙ length-owned_by System pages owners
 
 -- another frame keeps its mark
 pub taken_stays : (id n : ℕ) (pages roots : List ℕ) (owners : List (Option Owner)) → NotAmong n (pages ++ roots) → slice_get (taken_owners id pages roots owners) n ≡ slice_get owners n
 taken_stays id n pages roots owners apart =
-    mark_stays (OneDevice id) n roots (marked_for System pages owners) (not_among_right n pages roots apart) ∙ mark_stays System n pages owners (not_among_left n pages roots apart)
+    mark_stays (OneDevice id) n roots (owned_by System pages owners) (not_among_right n pages roots apart) ∙ mark_stays System n pages owners (not_among_left n pages roots apart)
 
 -- The frames that an attach takes: the directory's pages, and those of the root, below them.
 pub record AreTaken (owners : List (Option Owner)) (ledger : Ledger) (frames count : ℕ) (pages roots : List ℕ) : Type 0 where

@@ -8,7 +8,7 @@ use Rattle.iom_command_queue.specs.Waiting.{how_many}
 use Rattle.iom_ledger.specs.History.{pending_limit}
 use Rattle.iom_ledger.specs.Shown.{held_in, lingering_in}
 use Rattle.iom_registers.specs.declared.registers.Registers.{Registers}
-use Rattle.iom_table_frames.specs.Owners.{is_marked}
+use Rattle.iom_table_frames.specs.Owners.{has_owner}
 use Rattle.iom_driver.specs.declared.device.Stages.{Stages}
 use Rattle.iom_driver.specs.declared.device.Attachment.TheVariants.{Quarantined}
 use Rattle.iom_driver.specs.Devices.{attachment_by_id, has_device, stages_of, owned_stages_of}
@@ -27,7 +27,7 @@ pub record MayBeAttached (d : DriverState) (id : ℕ) : Type 0 where
 pub record MayBeGranted (d : DriverState) (id page frame : ℕ) (stage : Stages) : Type 0 where
   pub attached : stages_of d.devices id ≡ Some stage
   pub inside : frame < length d.owners
-  pub unreserved : is_marked d.owners frame ≡ false
+  pub unreserved : has_owner d.owners frame ≡ false
   pub page_low : page < page_limit_of (size_in stage.mode)
   pub not_held : held_in d.ledger id page ≡ None
   pub not_lingering : lingering_in d.ledger id page ≡ None

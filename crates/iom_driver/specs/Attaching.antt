@@ -13,7 +13,7 @@ use Rattle.iom_table_frames.specs.Fours.{IsHighestFour, NoFourAreFree}
 use Rattle.iom_table_frames.specs.Owners.{HasFree, IsHighestFree, NoneIsFree}
 use Rattle.iom_driver.specs.declared.device.Attachment.TheVariants.{Attached}
 use Rattle.iom_driver.specs.declared.device.Stages.{Stages}
-use Rattle.iom_driver.specs.Choices.{AreHighestFree, marked_for, cleared}
+use Rattle.iom_driver.specs.Choices.{AreHighestFree, owned_by, cleared}
 use Rattle.iom_driver.specs.Devices.{with_attachment, IsLowestNumber}
 use Rattle.iom_driver.specs.Directory.{context_for}
 use Rattle.iom_driver.specs.Layout.{directory_frame}
@@ -64,7 +64,7 @@ pub record TakesRoot (d : DriverState) (memory : List (List ℕ)) (id : ℕ) (mo
   pub root : IsRootBelow mode d (limit_below (length memory) pages) stage.root
   pub lowest : IsLowestNumber d.devices stage.number
   pub driver : d' ≡ record d {
-    owners = marked_for (OneDevice id) (root_frames mode stage.root) (marked_for System pages d.owners);
+    owners = owned_by (OneDevice id) (root_frames mode stage.root) (owned_by System pages d.owners);
     devices = with_attachment d.devices id (Attached stage);
   }
   pub bytes : memory' ≡ hung (cleared (pages ++ root_frames mode stage.root) memory) (root_level d.levels) (directory_frame (length memory)) id pages (context_for stage)

@@ -22,12 +22,12 @@ use Rattle.iom_registers.specs.declared.mmio.Mmio.{Ghosts}
 use Rattle.iom_registers.specs.declared.register.Register.TheVariants.{Ddtp, Cqb, Cqcsr, Fqb, Fqcsr}
 use Rattle.iom_registers.specs.declared.registers.Registers.{Registers}
 use Rattle.iom_registers.specs.Queues.{is_command_queue_on, is_fault_queue_on}
-use Rattle.iom_table_frames.specs.Owners.{HasFree, opening_owners, is_marked}
+use Rattle.iom_table_frames.specs.Owners.{HasFree, opening_owners, has_owner}
 use Rattle.iom_ledger.specs.Shown.{Agrees, IsFreeIn}
 use Rattle.iom_driver.specs.declared.answers.Ticket.{Ticket}
 use Rattle.iom_driver.specs.declared.device.Stages.{Stages}
 use Rattle.iom_driver.specs.Appends.{release_commands, AppendsAll}
-use Rattle.iom_driver.specs.Choices.{AreHighestFree, marked_for, cleared}
+use Rattle.iom_driver.specs.Choices.{AreHighestFree, owned_by, cleared}
 use Rattle.iom_driver.specs.Devices.{stages_of, detached}
 use Rattle.iom_driver.specs.Fences.{last_fence}
 use Rattle.iom_driver.specs.Layout.{command_frame, directory_frame, completion_address, ddtp_of, cqb_of, fqb_of}
@@ -93,7 +93,7 @@ pub record TakesTables (d : DriverState) (memory : List (List ℕ)) (id page fra
   pub chosen : AreHighestFree d.owners d.ledger (Some frame) (length memory) (missing_for (size_in stage.mode) memory stage.root page) tables
   pub shown : ShowsGrant d.ledger d'.ledger id page (frame, rights_of rights)
   pub agrees : (h : History) → Agrees d.ledger h → Agrees d'.ledger (entry.Granted id page frame (rights_of rights) ∷ h)
-  pub driver : d' ≡ record d { ledger = d'.ledger; owners = marked_for (OneDevice id) tables d.owners }
+  pub driver : d' ≡ record d { ledger = d'.ledger; owners = owned_by (OneDevice id) tables d.owners }
   pub bytes : memory' ≡ mapped (size_in stage.mode) (cleared tables memory) stage.root page (granted_leaf frame rights) tables
   pub others : KeepsOtherFrames d'.owners id memory memory'
   pub standing : LeavesStanding d memory d' memory'
@@ -141,5 +141,5 @@ AnswersRelease g d memory io id page (Err why) d' memory' io' =
 -- FREE: the frame is one of memory, isn't reserved, and no device holds or lingers on it
 pub record IsFreeFrame (d : DriverState) (frame : ℕ) : Type 0 where
   pub inside : frame < length d.owners
-  pub unreserved : is_marked d.owners frame ≡ false
+  pub unreserved : has_owner d.owners frame ≡ false
   pub ungranted : IsFreeIn d.ledger frame

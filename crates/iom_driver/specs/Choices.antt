@@ -14,9 +14,9 @@ AreHighestFree owners ledger named limit (suc count) (frame ∷ frames) =
     IsHighestFree owners ledger named limit frame × AreHighestFree owners ledger named frame count frames
 
 -- the owners, where the frames are the owner's
-abbrev pub marked_for : Owner → List ℕ → List (Option Owner) → List (Option Owner)
-marked_for owner [] owners = owners
-marked_for owner (frame ∷ frames) owners = marked_for owner frames (slice_set owners frame (Some owner))
+abbrev pub owned_by : Owner → List ℕ → List (Option Owner) → List (Option Owner)
+owned_by owner [] owners = owners
+owned_by owner (frame ∷ frames) owners = owned_by owner frames (slice_set owners frame (Some owner))
 
 -- the memory, where the frames are zero
 abbrev pub cleared : List ℕ → List (List ℕ) → List (List ℕ)

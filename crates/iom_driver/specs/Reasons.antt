@@ -11,7 +11,7 @@ use Rattle.iom_ledger.specs.History.{pending_limit}
 use Rattle.iom_ledger.specs.Shown.{held_in, lingering_in}
 use Rattle.iom_registers.specs.declared.registers.Registers.{Registers}
 use Rattle.iom_registers.specs.Queues.{command_entries}
-use Rattle.iom_table_frames.specs.Owners.{is_marked}
+use Rattle.iom_table_frames.specs.Owners.{has_owner}
 use Rattle.iom_driver.specs.declared.device.Stages.{Stages}
 use Rattle.iom_driver.specs.declared.device.Attachment.{Attachment}
 use Rattle.iom_driver.specs.declared.device.Attachment.TheVariants as attachment
@@ -68,7 +68,7 @@ page_limit_in (Some stage) = page_limit_of (size_in stage.mode)
 abbrev pub granting_reasons : DriverState → ℕ → ℕ → ℕ → List (Bool × Refusal)
 granting_reasons d id page frame =
     (nat_le (length d.owners) frame, FrameOutOfRange)
-    ∷ (is_marked d.owners frame, FrameReserved)
+    ∷ (has_owner d.owners frame, FrameReserved)
     ∷ (nat_le (page_limit_in (stages_of d.devices id)) page, IovaOutOfRange)
     ∷ (is_busy d id page, IovaBusy)
     ∷ []

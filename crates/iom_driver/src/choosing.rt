@@ -1,7 +1,7 @@
 // The frames that become tables, or pages of the directory.
 ghost use Rattle.std.specs.Prelude.{◌≡◌, ◌<◌, ◌≤◌, ◌+◌, ◌^◌, ◌∷◌, Some, None, All, length, IfSome, IfNone};
 ghost use Rattle.iom_driver.specs.Attaching.{root_frames};
-ghost use Rattle.iom_driver.specs.Choices.{AreHighestFree, marked_for, cleared};
+ghost use Rattle.iom_driver.specs.Choices.{AreHighestFree, owned_by, cleared};
 ghost use Rattle.iom_page_table.specs.SecondTables.{other_quarters};
 ghost use Rattle.iom_table_frames.specs.Owners.{HasFree};
 
@@ -20,7 +20,7 @@ pub(crate) fn reserve_all(
 )
     requires marked { All (λ frame. frame < length owners.old) frames.now }
     requires inside { All (λ frame. frame < length memory.old) frames.now }
-    ensures owners { owners.new ≡ marked_for owner frames.now owners.old }
+    ensures owners { owners.new ≡ owned_by owner frames.now owners.old }
     ensures memory { memory.new ≡ cleared frames.now memory.old }
 {
     for frame in frames {
@@ -33,7 +33,7 @@ fn reserve_four(owners: &mut TableFrames, memory: &mut Memory, root: u32, owner:
     requires marked { All (λ frame. frame < length owners.old) (root ∷ other_quarters root) }
     requires inside { All (λ frame. frame < length memory.old) (root ∷ other_quarters root) }
     requires fits { root + 4 < 2 ^ 32 }
-    ensures owners { owners.new ≡ marked_for owner (root ∷ other_quarters root) owners.old }
+    ensures owners { owners.new ≡ owned_by owner (root ∷ other_quarters root) owners.old }
     ensures memory { memory.new ≡ cleared (root ∷ other_quarters root) memory.old }
 {
     let frames = [root, root + 1, root + 2, root + 3];
@@ -51,7 +51,7 @@ pub(crate) fn reserve_root(
     requires marked { All (λ frame. frame < length owners.old) (root_frames mode root) }
     requires inside { All (λ frame. frame < length memory.old) (root_frames mode root) }
     requires fits { root + 4 < 2 ^ 32 }
-    ensures owners { owners.new ≡ marked_for owner (root_frames mode root) owners.old }
+    ensures owners { owners.new ≡ owned_by owner (root_frames mode root) owners.old }
     ensures memory { memory.new ≡ cleared (root_frames mode root) memory.old }
 {
     match mode {

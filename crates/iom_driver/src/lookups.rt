@@ -1,6 +1,6 @@
 // What the driver tells of itself.
 ghost use Rattle.std.specs.Prelude.{◌≡◌, ◌↔◌, ◌-◌, IsTrue, MatchOption, nat_lt, nat_le};
-ghost use Rattle.iom_table_frames.specs.Owners.{is_marked, AreSoMany};
+ghost use Rattle.iom_table_frames.specs.Owners.{has_owner, AreSoMany};
 ghost use Rattle.iom_driver.specs.Calls.{IsFreeFrame};
 ghost use Rattle.iom_driver.specs.Devices.{device_by_id};
 ghost use Rattle.iom_driver.specs.Fences.{last_fence};
@@ -34,7 +34,7 @@ impl Driver {
 
     /// Whether the frame is reserved, for tables or for the system; false outside memory.
     pub fn is_reserved(&self, frame: u32) -> bool
-        ensures { result ≡ is_marked (state_of self.now).owners frame }
+        ensures { result ≡ has_owner (state_of self.now).owners frame }
     {
         self.owners.is_reserved(frame)
     }

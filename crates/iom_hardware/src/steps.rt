@@ -60,11 +60,11 @@ fn page_of(want: &WantedAccess) -> u64
 }
 
 /// What the device is told of the access that it wants, by what came of it.
-fn became(want: &WantedAccess, answer: &Result<Stepped, Refusal>) -> Became
-    ensures { (sector : List ℕ) (access : Access) → wanted_access (access_wanted sector want.now) ≡ Some access → result ≡ reply_to access answer.now }
+fn became(want: &WantedAccess, answer: Result<Stepped, Refusal>) -> Became
+    ensures { (sector : List ℕ) (access : Access) → wanted_access (access_wanted sector want.now) ≡ Some access → result ≡ reply_to access answer }
 {
     match answer {
-        Ok(Stepped::Began(Reply::Accepted(number))) => Became::Accepted(*number),
+        Ok(Stepped::Began(Reply::Accepted(number))) => Became::Accepted(number),
         Ok(Stepped::Began(Reply::Busy)) => Became::Busy,
         Ok(Stepped::Asked) => Became::Asked(page_of(want)),
         _ => Became::Fault,
@@ -176,9 +176,17 @@ fn step_once<D: Disk>(board: &mut Board, blk: &mut Blk<D>, id: DeviceId) -> Resu
 {
     let rest = match blk.step() {
         Step::Wants(want) => {
-            let answer = begin(board, blk, id, &want);
-            blk.replied(became(&want, &answer));
-            return answer;
+            return match begin(board, blk, id, &want) {
+                // Most are accepted: what comes of it needn't be looked at again.
+                Ok(Stepped::Began(Reply::Accepted(number))) => {
+                    blk.replied(Became::Accepted(number));
+                    Ok(Stepped::Began(Reply::Accepted(number)))
+                }
+                answer => {
+                    blk.replied(became(&want, answer));
+                    answer
+                }
+            };
         }
         Step::Idle => Stepped::Idle,
         Step::Waiting => Stepped::Waiting,

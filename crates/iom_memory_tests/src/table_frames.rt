@@ -198,9 +198,9 @@ fn are_same(rt: &impl Abort, alloc: Global, one: &[Step], other: &[Step]) -> boo
     one.tables.is_same(&other.tables)
 }
 
-// Marks are equal where each frame has the same owner.
+// Table frames are equal where each frame has the same owner.
 #[test]
-fn marks_are_compared(rt: HostRuntime) {
+fn owners_are_compared(rt: HostRuntime) {
     let taken = Step::Take(ONE, None, Some(59));
     let given_back = [taken, Step::GiveBack(ONE)];
     expect(&rt, are_same(&rt, rt.alloc(), &[], &given_back));

@@ -11,9 +11,9 @@ use iom_machine_judge::{questions, requests, through_cache, translated};
 use iom_trace_lines::CAUSES;
 use std::alloc::Global;
 
-/// By which way a request goes to memory.
+/// By which route a request goes to memory.
 #[derive(Clone, Copy)]
-pub(crate) enum Way {
+pub(crate) enum Route {
     /// The IOMMU translates its address.
     Untranslated,
     /// It says that it is translated already.
@@ -22,18 +22,18 @@ pub(crate) enum Way {
     Cached,
 }
 
-impl Way {
-    /// The way by which the event's request goes to memory, and whose it is, if it is one.
-    pub(crate) fn of(event: &Event) -> Option<(Way, DeviceId)> {
+impl Route {
+    /// The route of the event's request to memory, and whose it is, if it is one.
+    pub(crate) fn of(event: &Event) -> Option<(Route, DeviceId)> {
         match event {
             Event::Read { device, .. } | Event::Write { device, .. } => {
-                Some((Way::Untranslated, *device))
+                Some((Route::Untranslated, *device))
             }
             Event::ReadTranslated { device, .. } | Event::WriteTranslated { device, .. } => {
-                Some((Way::Forged, *device))
+                Some((Route::Forged, *device))
             }
             Event::ReadThroughCache { device, .. } | Event::WriteThroughCache { device, .. } => {
-                Some((Way::Cached, *device))
+                Some((Route::Cached, *device))
             }
             _ => None,
         }
@@ -64,7 +64,7 @@ fn access_of(alloc: Global, event: &Event) -> Option<Access> {
 /// A device's request to memory.
 #[derive(Clone, Copy)]
 struct Request<'a> {
-    way: Way,
+    route: Route,
     device: &'a Device,
     access: &'a Access,
 }
@@ -73,32 +73,33 @@ impl Facts<'_> {
     /// Whether the request may be answered so, on the frame.
     fn may(&self, request: Request<'_>, frame: u64, outcome: &Outcome) -> bool {
         let (kept, device, access) = (self.kept, request.device, request.access);
-        match request.way {
-            Way::Untranslated => requests::may_answer(kept, device, access, frame, outcome),
-            Way::Forged => translated::may_answer(kept, device, access, outcome),
-            Way::Cached => through_cache::may_answer(kept, device, access, frame, outcome),
+        match request.route {
+            Route::Untranslated => requests::may_answer(kept, device, access, frame, outcome),
+            Route::Forged => translated::may_answer(kept, device, access, outcome),
+            Route::Cached => through_cache::may_answer(kept, device, access, frame, outcome),
         }
     }
 
     /// Says what is known of an access that the event asks for, and what could have come of it.
     pub(crate) fn say_access(&self, words: &mut Words, event: &Event, outcome: &Outcome) -> Said {
-        let (Some((way, id)), Some(access)) = (Way::of(event), access_of(words.alloc, event)) else {
+        let (Some((route, id)), Some(access)) = (Route::of(event), access_of(words.alloc, event))
+        else {
             return Ok(());
         };
         let Some(device) = self.device(id) else {
             return say_absent(words, id);
         };
-        let sends = match way {
-            Way::Untranslated => device.kind.sends_untranslated(),
-            Way::Forged => device.kind.forges(),
-            Way::Cached => device.kind.sends_through_cache(),
+        let sends = match route {
+            Route::Untranslated => device.kind.sends_untranslated(),
+            Route::Forged => device.kind.forges(),
+            Route::Cached => device.kind.sends_through_cache(),
         };
         if !sends {
             words.say("a device of its kind doesn't do that")?;
             return words.could(Refusal::WrongKind);
         }
         let request = Request {
-            way,
+            route,
             device,
             access: &access,
         };
@@ -117,7 +118,7 @@ impl Facts<'_> {
     fn could_come(&self, words: &mut Words, request: Request<'_>, outcome: &Outcome) -> Said {
         let Request { device, access, .. } = request;
         let meant = Meant::by(device, access.address / PAGE_SIZE, access.kind);
-        if !matches!(request.way, Way::Forged) {
+        if !matches!(request.route, Route::Forged) {
             self.say_meant(words, meant)?;
             self.say_shown(words, meant)?;
         }

@@ -1,7 +1,7 @@
 // Why a line isn't lawful: what the words are about, by the event, and what is said of the driver's calls.
 ghost use Rattle.std.specs.Prelude.{IfOk, Contains, string_bytes};
 
-use crate::accesses::Way;
+use crate::accesses::Route;
 use crate::devices::say_absent;
 use crate::notes::Notes;
 use crate::past::Place;
@@ -118,7 +118,7 @@ impl Facts<'_> {
     /// Says what is known of what the line is about, and what could have come.
     fn say(&self, words: &mut Words, event: &Event, outcome: &Outcome) -> Said {
         match event {
-            event if Way::of(event).is_some() => self.say_access(words, event, outcome),
+            event if Route::of(event).is_some() => self.say_access(words, event, outcome),
             Event::Commit { device } => self.say_commit(words, *device),
             Event::Step { device } => self.say_step(words, *device, outcome),
             Event::Ask { device, .. }

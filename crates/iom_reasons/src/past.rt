@@ -1,6 +1,6 @@
 // Which frames devices had at their pages, the last one and the one before it, and which lines granted, released and confirmed them;
 // and which lines accepted what is in flight.
-use crate::accesses::Way;
+use crate::accesses::Route;
 use crate::words::Said;
 use indexmap::IndexMap;
 use iom_base::DeviceId;
@@ -198,7 +198,7 @@ impl Past {
             }
             (Event::Step { device }, Outcome::Accepted(_)) => self.accept(*device, line)?,
             (event, Outcome::Accepted(_)) => {
-                if let Some((_way, device)) = Way::of(event) {
+                if let Some((_route, device)) = Route::of(event) {
                     self.accept(device, line)?;
                 }
             }

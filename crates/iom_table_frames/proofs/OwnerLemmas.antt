@@ -1,11 +1,11 @@
--- Marks, and the set of the frames that have none.
+-- Owners, and the set of the frames that have none.
 use Rattle.std.proofs.Common.{◌≡◌, ℕ, suc, zero, ◌+◌, ◌-◌, ◌<◌, ◌≤◌, ◌⊎◌, inl, inr, true, false, ◌==◌, List, [], ◌∷◌, ◌++◌, length, nat_lt, replicate, slice_set, Option, None, Some, is_none, if◌then◌else◌, refl, sym, ap, ◌∙◌, arith}
 use Rattle.std.proofs.lemmas.Bool.{cases_eq, cases_lt, eq-eqb, ne_eqb, lt-ltb, le-ltb, false≢true}
 use Rattle.std.proofs.lemmas.List.{length-append, length-replicate, length-set}
 use Rattle.iom_frame_set.specs.Sets.{Words, has, room, RemovesFrame}
 use Rattle.iom_base.specs.declared.owner.Owner.{Owner}
 use Rattle.iom_base.specs.declared.owner.Owner.TheVariants.{System}
-use Rattle.iom_table_frames.specs.Owners.{is_marked}
+use Rattle.iom_table_frames.specs.Owners.{has_owner}
 use Rattle.iom_table_frames.specs.Unreserved.{is_unreserved, IsUnreservedSet}
 
 -- numbers that are one higher are equal alike
@@ -22,7 +22,7 @@ zero_other f = ne_eqb 0 (suc f) (λ same. omega arith)
 other_zero : (n : ℕ) → (suc n == 0) ≡ false
 other_zero n = ne_eqb (suc n) 0 (λ same. omega arith)
 
--- a mark with an owner
+-- a frame with an owner
 unreserved-set : (owners : List (Option Owner)) (frame : ℕ) (owner : Owner) (f : ℕ) → frame < length owners
     → is_unreserved (slice_set owners frame (Some owner)) f ≡ (if frame == f then false else is_unreserved owners f)
 unreserved-set [] frame owner f within = absurd (omega arith)
@@ -40,7 +40,7 @@ IsUnreservedSet-reserved owners old new frame owner within removed same_room is 
   roomy = let roomy = is.roomy in let long = length-set owners frame (Some owner) in omega arith;
 }
 
--- the marks of frames without an owner, and then of frames of the system's
+-- the owners of frames without one, and then of frames of the system's
 below_next : (f n : ℕ) → nat_lt (suc f) (suc n) ≡ nat_lt f n
 below_next f n = by (cases_lt f n)
   where
@@ -69,13 +69,13 @@ IsUnreservedSet-opening owners unreserved n fixed is roomy below = record {
 }
 
 -- a frame of memory isn't reserved exactly where it is unreserved
-pub unreserved_from_mark : (owners : List (Option Owner)) (f : ℕ) → f < length owners → is_marked owners f ≡ false → is_unreserved owners f ≡ true
+pub unreserved_from_mark : (owners : List (Option Owner)) (f : ℕ) → f < length owners → has_owner owners f ≡ false → is_unreserved owners f ≡ true
 unreserved_from_mark [] f within unmarked = absurd (omega arith)
 unreserved_from_mark (None ∷ owners) zero within unmarked = refl
 unreserved_from_mark (Some owner ∷ owners) zero within unmarked = absurd (false≢true (sym unmarked))
 unreserved_from_mark (m ∷ owners) (suc f) within unmarked = unreserved_from_mark owners f (omega arith) unmarked
 
-pub mark_from_unreserved : (owners : List (Option Owner)) (f : ℕ) → is_unreserved owners f ≡ true → is_marked owners f ≡ false
+pub mark_from_unreserved : (owners : List (Option Owner)) (f : ℕ) → is_unreserved owners f ≡ true → has_owner owners f ≡ false
 mark_from_unreserved [] f unreserved = refl
 mark_from_unreserved (None ∷ owners) zero unreserved = refl
 mark_from_unreserved (Some owner ∷ owners) zero unreserved = absurd (false≢true unreserved)

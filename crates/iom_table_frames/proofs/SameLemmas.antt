@@ -1,4 +1,4 @@
--- What `==` says of two marks.
+-- What `==` says of two owners, where there are any.
 use Rattle.std.proofs.Common.{◌≡◌, Option, refl, ap}
 use Rattle.std.specs.Bool.{Decides}
 use Rattle.std.specs.Option.{option_eq}

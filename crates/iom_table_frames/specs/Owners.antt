@@ -1,4 +1,4 @@
--- Marks of reserved frames, and free frames.
+-- Owners of reserved frames, and free frames.
 use Rattle.std.specs.Prelude.{◌≡◌, ◌≢◌, ℕ, zero, suc, ◌-◌, ◌<◌, ◌≤◌, Bool, false, ⊤, List, length, ◌++◌, replicate, Option, None, Some, is_some, slice_get, All, Contains, nat_eq}
 use Rattle.std.specs.List.{IsDistinct}
 use Rattle.std.specs.Option.{option_and_then, option_map_or}
@@ -13,17 +13,17 @@ abbrev pub opening_owners : ℕ → List (Option Owner)
 opening_owners frames = replicate (frames - 4) None ++ replicate 4 (Some System)
 
 -- whether the frame is reserved; one outside memory isn't
-abbrev pub is_marked : List (Option Owner) → ℕ → Bool
-is_marked owners frame = option_map_or (λ mark. is_some mark) (slice_get owners frame) false
+abbrev pub has_owner : List (Option Owner) → ℕ → Bool
+has_owner owners frame = option_map_or (λ owner. is_some owner) (slice_get owners frame) false
 
 -- whom the frame is reserved for, if it is
 abbrev pub owner_at : List (Option Owner) → ℕ → Option Owner
-owner_at owners frame = option_and_then (λ mark. mark) (slice_get owners frame)
+owner_at owners frame = option_and_then (λ owner. owner) (slice_get owners frame)
 
 -- the frame is free for a table that isn't to be the named one: not reserved, and no device holds or lingers on it
 pub record IsFreeForTable (owners : List (Option Owner)) (ledger : Ledger) (named : Option ℕ) (frame : ℕ) : Type 0 where
   pub other : named ≢ Some frame
-  pub unmarked : is_marked owners frame ≡ false
+  pub unmarked : has_owner owners frame ≡ false
   pub ungranted : IsFreeIn ledger frame
 
 -- no frame from the first number on and below the limit is free besides the named one

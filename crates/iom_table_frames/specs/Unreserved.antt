@@ -6,7 +6,7 @@ use Rattle.iom_base.specs.declared.owner.Owner.{Owner}
 
 -- whether it is a frame of memory that isn't reserved
 abbrev pub is_unreserved : List (Option Owner) → ℕ → Bool
-is_unreserved owners frame = option_map_or (λ mark. is_none mark) (slice_get owners frame) false
+is_unreserved owners frame = option_map_or (λ owner. is_none owner) (slice_get owners frame) false
 
 -- the set has the frames of memory that aren't reserved, and room for each frame of memory
 pub record IsUnreservedSet (owners : List (Option Owner)) (unreserved : Words) : Type 0 where

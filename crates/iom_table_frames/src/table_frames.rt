@@ -1,7 +1,7 @@
 ghost use Rattle.std.specs.Prelude.{◌≡◌, ◌↔◌, ◌+◌, ◌-◌, ◌^◌, ◌<◌, ◌≤◌, length, replicate, IfOk, IsTrue, None, Some, slice_get, slice_set, MatchOption};
 ghost use Rattle.std.specs.Option.{option_map_or};
 ghost use Rattle.iom_phys_mem.specs.Words.{zeroed};
-ghost use Rattle.iom_table_frames.specs.Owners.{is_marked, owner_at, opening_owners, IsFreeForTable, NoneIsFree, IsHighestFree, HasFree, GivesBack, AreSoMany, IsFreeInMemory};
+ghost use Rattle.iom_table_frames.specs.Owners.{has_owner, owner_at, opening_owners, IsFreeForTable, NoneIsFree, IsHighestFree, HasFree, GivesBack, AreSoMany, IsFreeInMemory};
 
 use iom_base::{FRAME_SIZE, Owner};
 use iom_frame_set::FrameSet;
@@ -55,11 +55,11 @@ impl TableFrames {
 
     /// Whether the frame is reserved; false outside memory.
     pub fn is_reserved(&self, frame: u32) -> bool
-        ensures { result ≡ is_marked self.now frame }
+        ensures { result ≡ has_owner self.now frame }
     {
         match self.owners.get(frame as usize) {
             None => false,
-            Some(mark) => mark.is_some(),
+            Some(owner) => owner.is_some(),
         }
     }
 
@@ -69,7 +69,7 @@ impl TableFrames {
     {
         match self.owners.get(frame as usize) {
             None => None,
-            Some(mark) => *mark,
+            Some(owner) => *owner,
         }
     }
 
@@ -120,7 +120,7 @@ impl TableFrames {
     pub fn reserve(&mut self, memory: &mut Memory, frame: u32, owner: Owner)
         requires marked { frame < length self.old }
         requires inside { frame < length memory.old }
-        ensures mark { self.new ≡ slice_set self.old frame (Some owner) }
+        ensures owners { self.new ≡ slice_set self.old frame (Some owner) }
         ensures zero { memory.new ≡ slice_set memory.old frame zeroed }
     {
         self.owners[frame as usize] = Some(owner);
@@ -163,7 +163,7 @@ impl TableFrames {
     fn release(&mut self, memory: &mut Memory, frame: u32)
         requires marked { frame < length self.old }
         requires inside { frame < length memory.old }
-        ensures mark { self.new ≡ slice_set self.old frame None }
+        ensures owners { self.new ≡ slice_set self.old frame None }
         ensures zero { memory.new ≡ slice_set memory.old frame zeroed }
     {
         self.owners[frame as usize] = None;

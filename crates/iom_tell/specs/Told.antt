@@ -15,7 +15,7 @@ use Rattle.iom_machine.specs.declared.event.Event.TheVariants as events
 use Rattle.iom_machine.specs.declared.outcome.Outcome.{Outcome}
 use Rattle.iom_script.specs.Grammar.{IsEventLine}
 use Rattle.iom_script.specs.Lines.{outcome_text}
-use Rattle.iom_table_frames.specs.Owners.{is_marked}
+use Rattle.iom_table_frames.specs.Owners.{has_owner}
 use Rattle.iom_trace_lines.specs.TraceLines.{Said, Step, access_text, is_accepted, on_text, tables_text, takes_frames}
 use Rattle.iom_world.specs.Shown.{Shown}
 use Rattle.iom_tell.specs.declared.behind.Behind.{Behind}
@@ -25,7 +25,7 @@ use Rattle.iom_tell.specs.declared.behind.Behind.TheVariants.{Nothing, Tables, O
 
 -- whether the frame is reserved, for tables or for the system
 abbrev pub is_reserved_in : Shown → ℕ → Bool
-is_reserved_in now frame = is_marked now.parts.driver.owners frame
+is_reserved_in now frame = has_owner now.parts.driver.owners frame
 
 -- the frame of the device's access that was accepted last, of those in flight
 abbrev pub newest_frame : Shown → ℕ → Option ℕ

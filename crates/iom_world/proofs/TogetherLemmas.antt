@@ -43,7 +43,7 @@ use Rattle.iom_hardware.specs.Invariant.{HardwareInvariant}
 use Rattle.iom_hardware.specs.declared.hardware.Hardware.{Hardware}
 use Rattle.iom_iommu.specs.Parts.{mmio, registers_of}
 use Rattle.iom_machine.specs.declared.outcome.Outcome.TheVariants as outcome
-use Rattle.iom_table_frames.specs.Owners.{is_marked}
+use Rattle.iom_table_frames.specs.Owners.{has_owner}
 use Rattle.iom_virtio_blk.specs.declared.disk.Disk.{Ghosts}
 use Rattle.iom_world.specs.declared.world.World.{World}
 use Rattle.iom_world.specs.OnHardware.{hardware_of, outcome_of_store}
@@ -254,7 +254,7 @@ known_as_before old new memory rest = ap (λ (h : BoardParts). known_blocks h.de
 
 -- the processor's bytes stand in a frame that isn't reserved
 stored_in_parts : (old : Parts) (memory : List (List ℕ)) (address : ℕ) (bytes : List ℕ) (answer : Result (Unit {0}) NoPlace)
-    → (FitsInPage address (length bytes) → address / page_size < length old.memory → is_marked old.driver.owners (address / page_size) ≡ false)
+    → (FitsInPage address (length bytes) → address / page_size < length old.memory → has_owner old.driver.owners (address / page_size) ≡ false)
     → ProcessorWrites old.memory address bytes answer memory → StoresIfAny old address bytes (outcome_of_store answer) memory
 stored_in_parts old memory address bytes (Ok done) unreserved stores = record {
   fits = stores.fits;
@@ -268,7 +268,7 @@ stored_in_parts old memory address bytes (Err BadSpan) unreserved refused = refu
 stored_in_parts old memory address bytes (Err OutsideMemory) unreserved ((fits, outside), same) = (fits, outside, same)
 
 pub poked_in_parts : (old new : Parts) (address : ℕ) (bytes : List ℕ) (answer : Result (Unit {0}) NoPlace)
-    → (FitsInPage address (length bytes) → address / page_size < length old.memory → is_marked old.driver.owners (address / page_size) ≡ false)
+    → (FitsInPage address (length bytes) → address / page_size < length old.memory → has_owner old.driver.owners (address / page_size) ≡ false)
     → ProcessorWrites old.memory address bytes answer new.memory → hardware_of new ≡ record (hardware_of old) { memory = new.memory } → new.driver ≡ old.driver
     → PokesBytes old address bytes (outcome_of_store answer) new
 poked_in_parts old new address bytes answer unreserved writes rest driver = record {

@@ -6,7 +6,7 @@ ghost use Rattle.iom_block_devices.specs.Wanted.{wanted_of};
 ghost use Rattle.iom_driver.specs.StateOf.{state_of};
 ghost use Rattle.iom_inflight.specs.Flights.{count_in, row_of, waiting_at};
 ghost use Rattle.iom_iommu.specs.Parts.{flights_of};
-ghost use Rattle.iom_table_frames.specs.Owners.{is_marked};
+ghost use Rattle.iom_table_frames.specs.Owners.{has_owner};
 ghost use Rattle.iom_world.specs.Shown.{inside_of};
 
 use crate::world::World;
@@ -59,7 +59,7 @@ impl<D: Disk> World<D> {
 
     /// Whether the frame is reserved, for tables or for the system; false outside memory.
     pub fn is_reserved(&self, frame: u32) -> bool
-        ensures { result ≡ is_marked (state_of self.now.driver).owners frame }
+        ensures { result ≡ has_owner (state_of self.now.driver).owners frame }
     {
         self.driver.is_reserved(frame)
     }

@@ -7,7 +7,7 @@ ghost use Rattle.std.specs.Prelude.{⊤, ◌≡◌, ◌+◌, ◌/◌, ◌<◌, �
 ghost use Rattle.iom_base.specs.Sizes.{page_size};
 ghost use Rattle.iom_base.specs.Spans.{FitsInPage};
 ghost use Rattle.iom_driver.specs.StateOf.{state_of};
-ghost use Rattle.iom_table_frames.specs.Owners.{is_marked};
+ghost use Rattle.iom_table_frames.specs.Owners.{has_owner};
 ghost use Rattle.iom_world.specs.Shown.{parts_of, disks_of, inside_of};
 ghost use Rattle.iom_world_effects.specs.Processor.{PokesBytes, PeeksBytes, AsksFree};
 ghost use Rattle.iom_world.specs.OnHardware.{outcome_of_no_place};
@@ -27,9 +27,9 @@ impl<D: Disk> World<D> {
     // Of the span this looks where the frame is reserved alone: else the store looks at it.
     fn is_reserved_place(&self, address: u64, len: u64) -> bool
         ensures reserved { result ≡ true → FitsInPage address len × (address / page_size < length self.now.hardware.board.memory)
-            × (is_marked (state_of self.now.driver).owners (address / page_size) ≡ true) }
+            × (has_owner (state_of self.now.driver).owners (address / page_size) ≡ true) }
         ensures unreserved { result ≡ false → FitsInPage address len → address / page_size < length self.now.hardware.board.memory
-            → is_marked (state_of self.now.driver).owners (address / page_size) ≡ false }
+            → has_owner (state_of self.now.driver).owners (address / page_size) ≡ false }
     {
         let number = address / PAGE_SIZE;
         if number >= u64::from(self.hardware.board.memory.frames()) {

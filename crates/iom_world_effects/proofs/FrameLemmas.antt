@@ -8,7 +8,7 @@ use Rattle.iom_machine.specs.Frames.{is_reserved, with_frame, reserved_for}
 use Rattle.iom_base.specs.declared.owner.Owner.{Owner}
 use Rattle.iom_table_frames.specs.Owners as owners
 use Rattle.iom_world_effects.specs.Frames.{ShowsFrames}
-use Rattle.iom_driver.specs.Choices.{marked_for}
+use Rattle.iom_driver.specs.Choices.{owned_by}
 use Rattle.iom_driver.proofs.Lists.{get_set_same, get_set_other, get_within, get_there}
 use Rattle.iom_driver.proofs.Owners.{all_head, all_tail}
 
@@ -66,7 +66,7 @@ shows_reserved memory memory' marked frames n owner shows lt long same size =
 
 -- frames become an owner's, before their bytes change
 pub shows_marked : (owner : Owner) (fs : List ℕ) (memory : List (List ℕ)) (marked : List (Option Owner)) (frames : List Frame) → ShowsFrames memory marked frames → length marked ≡ length memory
-    → All (λ f. f < length memory) fs → ShowsFrames memory (marked_for owner fs marked) (reserved_for owner fs frames)
+    → All (λ f. f < length memory) fs → ShowsFrames memory (owned_by owner fs marked) (reserved_for owner fs frames)
 shows_marked owner [] memory marked frames shows long inside = shows
 shows_marked owner (f ∷ fs) memory marked frames shows long inside =
     shows_marked owner fs memory (slice_set marked f (Some owner)) _
@@ -84,7 +84,7 @@ shows_kept memory memory' marked frames shows same size = record {
 }
 
 -- a frame is reserved in the machine exactly where it is marked
-pub reserved_shown : (memory : List (List ℕ)) (marked : List (Option Owner)) (frames : List Frame) (n : ℕ) → ShowsFrames memory marked frames → is_reserved frames n ≡ owners.is_marked marked n
+pub reserved_shown : (memory : List (List ℕ)) (marked : List (Option Owner)) (frames : List Frame) (n : ℕ) → ShowsFrames memory marked frames → is_reserved frames n ≡ owners.has_owner marked n
 reserved_shown memory marked frames n shows = by (slice_get frames n) (slice_get marked n) (shows.same_owners n)
   where
     by : (f : Option Frame) (m : Option (Option Owner)) → option_map (λ (g : Frame). g.owner) f ≡ m

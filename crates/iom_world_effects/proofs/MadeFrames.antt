@@ -18,7 +18,7 @@ use Rattle.iom_ledger.specs.declared.ledger.Ledger.{Ledger}
 use Rattle.iom_ledger.specs.History.{History, Pair, Lingers, May}
 use Rattle.iom_ledger.specs.Shown.{Agrees, lingering_in, released_in}
 use Rattle.iom_machine.specs.declared.outcome.Outcome.{Outcome}
-use Rattle.iom_table_frames.specs.Owners.{is_marked}
+use Rattle.iom_table_frames.specs.Owners.{has_owner}
 use Rattle.iom_world_effects.specs.Commits.{TellsRead, TellsKind}
 use Rattle.iom_world_effects.specs.Parts.{Parts}
 use Rattle.iom_world_effects.specs.Read.{access_in_flight, accesses_of}
@@ -40,20 +40,20 @@ lingers_in ledger h device page pair agrees (ticket, there) =
 
 -- a frame that may be reached isn't reserved
 may_unreserved : (parts : Parts) (h : History) (device frame : ℕ) (kind : AccessKind) → DriverInvariant parts.driver → Agrees parts.driver.ledger h → May h device frame kind
-    → is_marked parts.driver.owners frame ≡ false
+    → has_owner parts.driver.owners frame ≡ false
 may_unreserved parts h device frame kind own agrees (page, rights, holds, allowed) = elim holds [
   | inl held ↦ unmarked (own.grants.held device page frame rights (sym (agrees.pages device page).holds ∙ held))
   | inr lingers ↦ unmarked (own.grants.lingering device page frame rights (lingers_in parts.driver.ledger h device page (frame, rights) agrees lingers))
 ]
   where
-    unmarked : IsGrant parts.driver.owners page frame → is_marked parts.driver.owners frame ≡ false
+    unmarked : IsGrant parts.driver.owners page frame → has_owner parts.driver.owners frame ≡ false
     unmarked grant = ap (λ o. option_map_or (λ (mark : Option Owner). is_some mark) o false) grant.unreserved
 
 -- nor is that of an access in flight
 access_unreserved : (parts : Parts) (events : ℕ) (access : AccessInFlight) → PartsInvariant parts events → DriverInvariant parts.driver → Contains (accesses_of (flights_of parts.iommu).rows) access
-    → is_marked parts.driver.owners access.frame ≡ false
+    → has_owner parts.driver.owners access.frame ≡ false
 access_unreserved parts events access invariants own there =
-    ∥∥₁_elim invariants.copies (a_fact (is_marked parts.driver.owners access.frame))
+    ∥∥₁_elim invariants.copies (a_fact (has_owner parts.driver.owners access.frame))
     (λ (scene, shows, facts). may_unreserved parts scene.history access.device access.frame access.kind own shows.ledger
     (accesses_may scene facts access (subst (λ l. Contains l access) (sym shows.in_flight) there)))
   where
@@ -61,13 +61,13 @@ access_unreserved parts events access invariants own there =
     a_fact b = hlevel props
 
 pub made_unreserved : (parts : Parts) (events id : ℕ) (made : Option MadeAt) (memory : List (List ℕ)) (now : Flights) → PartsInvariant parts events → DriverInvariant parts.driver
-    → MakesOldestInFlight parts.memory (flights_of parts.iommu) id made memory now → IfSome made (λ it. is_marked parts.driver.owners it.frame ≡ false)
+    → MakesOldestInFlight parts.memory (flights_of parts.iommu) id made memory now → IfSome made (λ it. has_owner parts.driver.owners it.frame ≡ false)
 made_unreserved parts events id None memory now invariants own makes = tt
 made_unreserved parts events id (Some made) memory now invariants own makes =
     let row = makes.row in
     let there : Contains row.waiting makes.oldest = subst (λ l. Contains l makes.oldest) (sym makes.waiting) (contains_head makes.oldest makes.later) in
     let among = row_accesses (flights_of parts.iommu).rows id row makes.stands (access_in_flight row.device makes.oldest) (contains_map (access_in_flight row.device) row.waiting makes.oldest there) in
-    ap (λ (m : MadeAt). is_marked parts.driver.owners m.frame) makes.reply ∙ access_unreserved parts events (access_in_flight row.device makes.oldest) invariants own among
+    ap (λ (m : MadeAt). has_owner parts.driver.owners m.frame) makes.reply ∙ access_unreserved parts events (access_in_flight row.device makes.oldest) invariants own among
 
 -- a read leaves memory, so what it tells stood there before
 pub read_told : (old memory : List (List ℕ)) (flights : Flights) (id : ℕ) (made : MadeAt) (now : Flights) (reply : Outcome) → IsMade old flights id made memory now → made.kind ≡ Read

@@ -20,7 +20,7 @@ use Rattle.iom_inflight.specs.Flights.{Flights}
 use Rattle.iom_phys_mem.specs.Words.{word_at}
 use Rattle.iom_registers.specs.declared.registers.Registers.{Registers}
 use Rattle.iom_registers.specs.Queues.{command_status}
-use Rattle.iom_table_frames.specs.Owners.{is_marked}
+use Rattle.iom_table_frames.specs.Owners.{has_owner}
 use Rattle.iom_world_effects.specs.Devices.{shown_attachment}
 use Rattle.iom_world_effects.specs.Parts.{Parts}
 use Rattle.iom_world_effects.specs.Queued.{completed_in}
@@ -33,7 +33,7 @@ use Rattle.iom_world_effects.proofs.SceneSteps.{KeepsGrants, KeepsQueue}
 use Rattle.iom_world_effects.proofs.InvariantLemmas.{same_epochs, traffic_kept, kinds_kept, still_unmarked}
 
 -- a frame that isn't marked is nobody's, and none that is somebody's
-pub unmarked : (owners : List (Option Owner)) (frame : ℕ) → frame < length owners → is_marked owners frame ≡ false → slice_get owners frame ≡ Some None
+pub unmarked : (owners : List (Option Owner)) (frame : ℕ) → frame < length owners → has_owner owners frame ≡ false → slice_get owners frame ≡ Some None
 unmarked owners frame below none =
     let there = get_there owners frame below in
     there.1 ∙ ap Some (by there.0 (sym (ap (λ (o : Option (Option Owner)). option_map_or (λ mark. is_some mark) o false) there.1) ∙ none))

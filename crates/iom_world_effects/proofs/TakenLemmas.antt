@@ -8,9 +8,9 @@ use Rattle.iom_base.specs.declared.mode.Mode.TheVariants.{First, Second, Both}
 use Rattle.iom_base.specs.declared.owner.Owner.{Owner}
 use Rattle.iom_base.specs.declared.owner.Owner.TheVariants.{System, OneDevice}
 use Rattle.iom_driver.specs.Attaching.{AreDirectoryPages, IsRootBelow, limit_below, root_frames}
-use Rattle.iom_driver.specs.Choices.{AreHighestFree, marked_for}
+use Rattle.iom_driver.specs.Choices.{AreHighestFree, owned_by}
 use Rattle.iom_driver.specs.State.{DriverState}
-use Rattle.iom_driver.proofs.Owners.{Among, NotAmong, among_contained, among_get, marked_among, marked_still, mark_stays, length-marked_for}
+use Rattle.iom_driver.proofs.Owners.{Among, NotAmong, among_contained, among_get, marked_among, marked_still, mark_stays, length-owned_by}
 use Rattle.iom_ledger.specs.declared.ledger.Ledger.{Ledger}
 use Rattle.iom_table_frames.specs.Fours.{IsHighestFour}
 use Rattle.iom_table_frames.specs.Owners.{IsFreeForTable}
@@ -98,24 +98,24 @@ module _ (d : DriverState) (memory : List (List ℕ)) (id root : ℕ) (mode : Mo
 
 -- the marks once the pages are the system's and the root the device's
 abbrev pub taken_owners : ℕ → List ℕ → List ℕ → List (Option Owner) → List (Option Owner)
-taken_owners id pages roots owners = marked_for (OneDevice id) roots (marked_for System pages owners)
+taken_owners id pages roots owners = owned_by (OneDevice id) roots (owned_by System pages owners)
 
 -- what is nobody's then was neither the system's nor taken
 module _ (id : ℕ) (pages roots : List ℕ) (owners : List (Option Owner)) (inside : All (λ f. f < length owners) pages) (roots_inside : All (λ f. f < length owners) roots) where
-  free_elsewhere : (f : ℕ) → slice_get (taken_owners id pages roots owners) f ≡ Some None → NotAmong f roots × (slice_get (marked_for System pages owners) f ≡ Some None)
+  free_elsewhere : (f : ℕ) → slice_get (taken_owners id pages roots owners) f ≡ Some None → NotAmong f roots × (slice_get (owned_by System pages owners) f ≡ Some None)
   free_elsewhere f free = elim (among_or f roots) [
     | inl here ↦ absurd (not_owned (taken_owners id pages roots owners) f (OneDevice id) free
-        (marked_among (OneDevice id) f roots (marked_for System pages owners)
-        (λ k n lt. subst (λ m. get_or roots k n < m) (sym (length-marked_for System pages owners)) (roots_inside k n lt)) here))
-    | inr apart ↦ (apart, sym (mark_stays (OneDevice id) f roots (marked_for System pages owners) apart) ∙ free)
+        (marked_among (OneDevice id) f roots (owned_by System pages owners)
+        (λ k n lt. subst (λ m. get_or roots k n < m) (sym (length-owned_by System pages owners)) (roots_inside k n lt)) here))
+    | inr apart ↦ (apart, sym (mark_stays (OneDevice id) f roots (owned_by System pages owners) apart) ∙ free)
   ]
 
   pub free_before : (f : ℕ) → slice_get (taken_owners id pages roots owners) f ≡ Some None → slice_get owners f ≢ Some (Some System)
-  free_before f free own = not_owned (marked_for System pages owners) f System ((free_elsewhere f free).1) (marked_still System f pages owners own)
+  free_before f free own = not_owned (owned_by System pages owners) f System ((free_elsewhere f free).1) (marked_still System f pages owners own)
 
   pub free_untaken : (f : ℕ) → slice_get (taken_owners id pages roots owners) f ≡ Some None → ¬ Contains (pages ++ roots) f
   free_untaken f free here = elim (among_either f pages roots (among_contained f (pages ++ roots) here)) [
-    | inl among ↦ not_owned (marked_for System pages owners) f System ((free_elsewhere f free).1) (marked_among System f pages owners inside among)
+    | inl among ↦ not_owned (owned_by System pages owners) f System ((free_elsewhere f free).1) (marked_among System f pages owners inside among)
     | inr own ↦ among_not f roots own (free_elsewhere f free).0
   ]
     where

@@ -6,7 +6,7 @@ use Rattle.iom_inflight.specs.declared.made.MadeAt.{MadeAt}
 use Rattle.iom_iommu.specs.Requests.{CommitsOldest}
 use Rattle.iom_machine.specs.declared.outcome.Outcome.{Outcome}
 use Rattle.iom_machine.specs.declared.outcome.Outcome.TheVariants as outcome
-use Rattle.iom_table_frames.specs.Owners.{is_marked}
+use Rattle.iom_table_frames.specs.Owners.{has_owner}
 use Rattle.iom_world_effects.specs.Parts.{Parts}
 use Rattle.iom_world_effects.specs.Places.{IsPresent}
 use Rattle.iom_world_effects.specs.Unable.{IsUnknown}
@@ -35,7 +35,7 @@ pub record MakesOldest (old : Parts) (id : ℕ) (reply : Outcome) (new : Parts) 
   pub made : Option MadeAt
   pub reply_is : TellsMade old.memory made reply
   pub call : CommitsOldest old.memory old.iommu id made new.memory new.iommu
-  pub unreserved : IfSome made (λ it. is_marked old.driver.owners it.frame ≡ false)
+  pub unreserved : IfSome made (λ it. has_owner old.driver.owners it.frame ≡ false)
   pub driver : new.driver ≡ old.driver
   pub devices : new.devices ≡ old.devices
   pub fabric : new.fabric ≡ old.fabric

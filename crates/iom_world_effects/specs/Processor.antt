@@ -8,14 +8,14 @@ use Rattle.iom_base.specs.declared.refusal.Refusal.{Refusal}
 use Rattle.iom_base.specs.declared.refusal.Refusal.TheVariants.{FrameOutOfRange, FrameReserved}
 use Rattle.iom_machine.specs.declared.outcome.Outcome.{Outcome}
 use Rattle.iom_machine.specs.declared.outcome.Outcome.TheVariants.{Done, Refused, BadSpan, Bytes, Free}
-use Rattle.iom_table_frames.specs.Owners.{is_marked}
+use Rattle.iom_table_frames.specs.Owners.{has_owner}
 use Rattle.iom_world_effects.specs.Parts.{Parts}
 
 -- the bytes stand in a frame that isn't reserved, and no other byte changes
 pub record StoresAt (old : Parts) (address : ℕ) (bytes : List ℕ) (new : List (List ℕ)) : Type 0 where
   pub fits : FitsInPage address (length bytes)
   pub inside : address / page_size < length old.memory
-  pub unreserved : is_marked old.driver.owners (address / page_size) ≡ false
+  pub unreserved : has_owner old.driver.owners (address / page_size) ≡ false
   pub before : List ℕ
   pub there : slice_get old.memory (address / page_size) ≡ Some before
   pub stored : new ≡ slice_set old.memory (address / page_size) (with_bytes before (address % page_size) bytes)
@@ -23,7 +23,7 @@ pub record StoresAt (old : Parts) (address : ℕ) (bytes : List ℕ) (new : List
 -- why not: the frame is none of memory, else it is reserved
 abbrev pub IsNoPlace : Parts → ℕ → Refusal → Type 0
 IsNoPlace old frame FrameOutOfRange = length old.memory ≤ frame
-IsNoPlace old frame FrameReserved = (frame < length old.memory) × (is_marked old.driver.owners frame ≡ true)
+IsNoPlace old frame FrameReserved = (frame < length old.memory) × (has_owner old.driver.owners frame ≡ true)
 IsNoPlace old frame _ = ⊥
 
 -- a poke, by its answer, and memory after it

@@ -14,7 +14,7 @@ use Rattle.iom_inflight.specs.Calls.{IsMade, Performs}
 use Rattle.iom_inflight.specs.Flights.{Flights}
 use Rattle.iom_iommu.specs.Parts.{contexts_of, flights_of}
 use Rattle.iom_iommu.specs.Requests.{CommitsOldest}
-use Rattle.iom_table_frames.specs.Owners.{is_marked}
+use Rattle.iom_table_frames.specs.Owners.{has_owner}
 use Rattle.iom_tlb.specs.Chosen.{ioatc}
 use Rattle.iom_world_effects.specs.Parts.{Parts}
 use Rattle.iom_world_effects.specs.Read.{values_of, accesses_of}
@@ -41,13 +41,13 @@ performed_elsewhere Write memory new made n (bytes, there, is) apart =
 
 -- the frame of the access that is made is nobody's
 pub made_free : (old : Parts) (events id : ℕ) (made : MadeAt) (memory : List (List ℕ)) (flights : Flights) → PartsInvariant old events
-    → (is : IsMade old.memory (flights_of old.iommu) id made memory flights) → is_marked old.driver.owners made.frame ≡ false → slice_get old.driver.owners is.oldest.accepted.frame ≡ Some None
+    → (is : IsMade old.memory (flights_of old.iommu) id made memory flights) → has_owner old.driver.owners made.frame ≡ false → slice_get old.driver.owners is.oldest.accepted.frame ≡ Some None
 made_free old events id made memory flights invariants is unreserved =
     unmarked old.driver.owners is.oldest.accepted.frame (subst (λ n. is.oldest.accepted.frame < n) invariants.ready.stand.size is.inside)
-    (subst (λ (m : MadeAt). is_marked old.driver.owners m.frame ≡ false) is.reply unreserved)
+    (subst (λ (m : MadeAt). has_owner old.driver.owners m.frame ≡ false) is.reply unreserved)
 
 leaves_made : (old new : Parts) (events id : ℕ) (made : MadeAt) → PartsInvariant old events → IsMade old.memory (flights_of old.iommu) id made new.memory (flights_of new.iommu)
-    → CommitsOldest old.memory old.iommu id (Some made) new.memory new.iommu → is_marked old.driver.owners made.frame ≡ false → new.driver ≡ old.driver → new.devices ≡ old.devices → new.fabric ≡ old.fabric → Leaves old new
+    → CommitsOldest old.memory old.iommu id (Some made) new.memory new.iommu → has_owner old.driver.owners made.frame ≡ false → new.driver ≡ old.driver → new.devices ≡ old.devices → new.fabric ≡ old.fabric → Leaves old new
 leaves_made old new events id made invariants is call unreserved driver devices fabric =
     let free = made_free old events id made new.memory (flights_of new.iommu) invariants is unreserved in
     record {
@@ -88,7 +88,7 @@ keeps_made old new events id made invariants own unchanged leaves call so_far am
 
 -- a commit keeps the facts, whatever is told of it
 pub keeps_oldest : (old new : Parts) (events id : ℕ) (made : Option MadeAt) → PartsInvariant old events → DriverInvariant old.driver → StaysReady old.driver
-    → CommitsOldest old.memory old.iommu id made new.memory new.iommu → IfSome made (λ it. is_marked old.driver.owners it.frame ≡ false) → new.driver ≡ old.driver → new.devices ≡ old.devices → new.fabric ≡ old.fabric → PartsInvariant new events
+    → CommitsOldest old.memory old.iommu id made new.memory new.iommu → IfSome made (λ it. has_owner old.driver.owners it.frame ≡ false) → new.driver ≡ old.driver → new.devices ≡ old.devices → new.fabric ≡ old.fabric → PartsInvariant new events
 keeps_oldest old new events id None invariants own unchanged call unreserved driver devices fabric =
     keeps_made old new events id None invariants own unchanged (leaves_none old new id call driver devices fabric) call
     (ap (λ (f : Flights). f.so_far) call.makes.2)

@@ -18,7 +18,7 @@ use Rattle.iom_driver.specs.declared.device.Attachment.TheVariants.{Detached, At
 use Rattle.iom_driver.specs.declared.device.Stages.{Stages}
 use Rattle.iom_driver.specs.Attaching.{AnswersAttach, TakesRoot, root_frames}
 use Rattle.iom_driver.specs.Calls.{AnswersGrant, TakesTables, IsSame}
-use Rattle.iom_driver.specs.Choices.{AreHighestFree, marked_for, cleared}
+use Rattle.iom_driver.specs.Choices.{AreHighestFree, owned_by, cleared}
 use Rattle.iom_driver.specs.Devices.{attachment_by_id, has_device, attached_stages, owned_stages, owned_stages_of, has_trusted_cache}
 use Rattle.iom_driver.specs.Directory.{context_for, DirectoryStands}
 use Rattle.iom_driver.specs.Layout.{IsLevels, command_frame, completion_frame, directory_frame, completion_address}
@@ -28,7 +28,7 @@ use Rattle.iom_driver.specs.Reasons.{why_not_attach, why_not_grant}
 use Rattle.iom_driver.specs.State.{DriverState}
 use Rattle.iom_driver.proofs.Chosen.{are_chosen}
 use Rattle.iom_driver.proofs.Lists.{get_there}
-use Rattle.iom_driver.proofs.Owners.{NotAmong, Among, not_among, mark_stays, length-marked_for, bytes_stay, zero_among}
+use Rattle.iom_driver.proofs.Owners.{NotAmong, Among, not_among, mark_stays, length-owned_by, bytes_stay, zero_among}
 use Rattle.iom_iommu.specs.Parts.{registers_of, contexts_of, flights_of}
 use Rattle.iom_ledger.specs.declared.ledger.Ledger.{Ledger}
 use Rattle.iom_base.specs.declared.refusal.Refusal.{Refusal}
@@ -38,7 +38,7 @@ use Rattle.iom_ledger.specs.Shown.{Agrees, held_in, lingering_in}
 use Rattle.iom_machine.specs.declared.outcome.Outcome.{Outcome}
 use Rattle.iom_machine.specs.declared.state.Attachment.TheVariants as shown
 use Rattle.iom_phys_mem.specs.Words.{zeroed}
-use Rattle.iom_table_frames.specs.Owners.{IsFreeForTable, is_marked}
+use Rattle.iom_table_frames.specs.Owners.{IsFreeForTable, has_owner}
 use Rattle.iom_world_effects.specs.Devices.{shown_attachment}
 use Rattle.iom_world_effects.specs.Effect.{AttachesDevice, GrantsPage, PollsTickets}
 use Rattle.iom_world_effects.specs.Parts.{Parts}
@@ -73,10 +73,10 @@ attached_is (Quarantined ticket own) stage at = cc
 attached_is (Leaving ticket own) stage at = cc
 
 -- a frame that isn't marked is nobody's
-pub unmarked : (owners : List (Option Owner)) (n : ℕ) → n < length owners → is_marked owners n ≡ false → slice_get owners n ≡ Some None
+pub unmarked : (owners : List (Option Owner)) (n : ℕ) → n < length owners → has_owner owners n ≡ false → slice_get owners n ≡ Some None
 unmarked owners n lt free = by (get_there owners n lt) free
   where
-    by : (m : Option Owner) × (slice_get owners n ≡ Some m) → is_marked owners n ≡ false → slice_get owners n ≡ Some None
+    by : (m : Option Owner) × (slice_get owners n ≡ Some m) → has_owner owners n ≡ false → slice_get owners n ≡ Some None
     by (None, at) free = at
     by (Some owner, at) free = absurd (contra (rw at at free))
       where
@@ -175,8 +175,8 @@ module _ (old new : Parts) (events id : ℕ) (invariants : PartsInvariant old ev
     (iommu : new.iommu ≡ old.iommu) (devices : new.devices ≡ old.devices) (fabric : new.fabric ≡ old.fabric) where
   leaves_attached : LeavesWord old new
   leaves_attached = record {
-    size = ready.stand.size ∙ ap (λ (d : DriverState). length d.owners) takes.driver ∙ length-marked_for (OneDevice id) (root_frames mode takes.stage.root) (marked_for System takes.pages old.driver.owners)
-        ∙ length-marked_for System takes.pages old.driver.owners ∙ sym invariants.ready.stand.size;
+    size = ready.stand.size ∙ ap (λ (d : DriverState). length d.owners) takes.driver ∙ length-owned_by (OneDevice id) (root_frames mode takes.stage.root) (owned_by System takes.pages old.driver.owners)
+        ∙ length-owned_by System takes.pages old.driver.owners ∙ sym invariants.ready.stand.size;
     word = attach_keeps_word old new events id invariants own ats admitted mode takes;
   }
 
@@ -279,7 +279,7 @@ module _ (old new : Parts) (events id page frame : ℕ) (rights : GrantRights) (
 
   leaves_granted : LeavesWord old new
   leaves_granted = record {
-    size = ready.stand.size ∙ ap (λ (d : DriverState). length d.owners) takes.driver ∙ length-marked_for (OneDevice id) takes.tables old.driver.owners ∙ sym invariants.ready.stand.size;
+    size = ready.stand.size ∙ ap (λ (d : DriverState). length d.owners) takes.driver ∙ length-owned_by (OneDevice id) takes.tables old.driver.owners ∙ sym invariants.ready.stand.size;
     word = grant_keeps_system (completion_frame (length old.memory)) (fixed_frames old events invariants own).completion;
   }
 

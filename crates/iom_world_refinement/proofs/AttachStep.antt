@@ -7,7 +7,7 @@ use Rattle.iom_base.specs.declared.owner.Owner.TheVariants.{System, OneDevice}
 use Rattle.iom_directory_build.specs.Pages.{root_level}
 use Rattle.iom_driver.specs.declared.device.Attachment.TheVariants as attached
 use Rattle.iom_driver.specs.Attaching.{AnswersAttach, TakesRoot, LacksRoot, AreDirectoryPages, lacking_pages, limit_below, root_frames}
-use Rattle.iom_driver.specs.Choices.{AreHighestFree, marked_for, cleared}
+use Rattle.iom_driver.specs.Choices.{AreHighestFree, owned_by, cleared}
 use Rattle.iom_driver.specs.Devices.{has_device, has_trusted_cache, owned_stages_of, with_attachment}
 use Rattle.iom_driver.specs.Directory.{context_for}
 use Rattle.iom_driver.specs.Layout.{directory_frame}
@@ -16,7 +16,7 @@ use Rattle.iom_driver.specs.Reasons.{why_not_attach}
 use Rattle.iom_driver.specs.State.{DriverState}
 use Rattle.iom_driver.proofs.Chosen.{are_chosen}
 use Rattle.iom_driver.proofs.Lists.{differs}
-use Rattle.iom_driver.proofs.Owners.{Among, length-marked_for, length-cleared}
+use Rattle.iom_driver.proofs.Owners.{Among, length-owned_by, length-cleared}
 use Rattle.iom_driver.proofs.Places.{attachment_set, attachment_other}
 use Rattle.iom_iommu.specs.OwnIommu.{Iommu}
 use Rattle.iom_iommu.specs.Parts.{flights_of}
@@ -181,7 +181,7 @@ shows_attached old new events id mode ats found invariants there takes iommu dev
     let taken = taken_all d old.memory id takes.stage.root mode pages takes.chosen takes.root in
     let inside = All-parts (λ f. f < length old.memory) pages roots (λ k n lt. (taken k n lt).0) in
     let marked = shows_marked System pages old.memory d.owners state.frames shows.frames long inside.0 in
-    let rooted = shows_marked (OneDevice id) roots old.memory (marked_for System pages d.owners) (reserved_for System pages state.frames) marked (length-marked_for System pages d.owners ∙ long) inside.1 in
+    let rooted = shows_marked (OneDevice id) roots old.memory (owned_by System pages d.owners) (reserved_for System pages state.frames) marked (length-owned_by System pages d.owners ∙ long) inside.1 in
     let in_marks = subst (λ m. All (λ f. f < m) pages) (sym long) inside.0 in
     let roots_in = subst (λ m. All (λ f. f < m) roots) (sym long) inside.1 in
     let frames = shows_kept old.memory new.memory (taken_owners id pages roots d.owners) (reserved_for (OneDevice id) roots (reserved_for System pages state.frames)) rooted

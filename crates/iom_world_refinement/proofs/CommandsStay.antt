@@ -24,7 +24,7 @@ use Rattle.iom_iommu.specs.Questions.{AnswersQuestion, RefusesQuestion, RecordsU
 use Rattle.iom_iommu.specs.Requests.{Answers, ServesRequest, faulted_of, fault_of}
 use Rattle.iom_iommu.specs.Translated.{ServesTranslated}
 use Rattle.iom_fault_queue.specs.Fields.{untranslated_of, translated_of}
-use Rattle.iom_table_frames.specs.Owners.{is_marked}
+use Rattle.iom_table_frames.specs.Owners.{has_owner}
 use Rattle.iom_base.specs.declared.device_kind.DeviceKind.{DeviceKind}
 use Rattle.iom_base.specs.declared.device_kind.NewDevice.{NewDevice}
 use Rattle.iom_iommu.specs.Parts.{registers_of, flights_of}
@@ -222,13 +222,13 @@ performs_keep old accepted memory free performed = by accepted.access.kind perfo
     by Write stores = stored_keeps old accepted.frame _ memory free stores.2
 
 pub makes_keep : (old new : Parts) (events id : ℕ) (made : Option MadeAt) → PartsInvariant old events → MakesOldestInFlight old.memory (flights_of old.iommu) id made new.memory (flights_of new.iommu)
-    → IfSome made (λ it. is_marked old.driver.owners it.frame ≡ false) → KeepsSystem old new.memory
+    → IfSome made (λ it. has_owner old.driver.owners it.frame ≡ false) → KeepsSystem old new.memory
 makes_keep old new events id None invariants makes unreserved = λ n system. ap (λ m. slice_get m n) makes.1
 makes_keep old new events id (Some made) invariants makes unreserved =
     let frame : made.frame ≡ makes.oldest.accepted.frame = ap (λ m. m.frame) makes.reply in
     let inside : makes.oldest.accepted.frame < length old.driver.owners = subst (λ n. makes.oldest.accepted.frame < n) invariants.ready.stand.size makes.inside in
     performs_keep old makes.oldest.accepted new.memory
-    (unmarked old.driver.owners makes.oldest.accepted.frame inside (subst (λ f. is_marked old.driver.owners f ≡ false) frame unreserved)) makes.performed
+    (unmarked old.driver.owners makes.oldest.accepted.frame inside (subst (λ f. has_owner old.driver.owners f ≡ false) frame unreserved)) makes.performed
 
 commits_keep : (old new : Parts) (events id : ℕ) (answered : Outcome) → PartsInvariant old events → DriverInvariant old.driver → CommitsAccess old id answered new → waiting_in new ≡ waiting_in old
 commits_keep old new events id answered invariants own commits = elim commits [

@@ -19,7 +19,7 @@ use Rattle.iom_machine.specs.declared.state.State.{State}
 use Rattle.iom_machine.specs.Devices.{replaced_device}
 use Rattle.iom_machine.specs.Frames.{stored}
 use Rattle.iom_machine.specs.Machine.{Commits, Makes, with_oldest_made}
-use Rattle.iom_table_frames.specs.Owners.{is_marked}
+use Rattle.iom_table_frames.specs.Owners.{has_owner}
 use Rattle.iom_world_effects.specs.Commits.{CommitsAccess, TellsMade, TellsKind}
 use Rattle.iom_world_effects.specs.Devices.{in_flight_of, shown_device, shown_devices}
 use Rattle.iom_world_effects.specs.Frames.{ShowsFrames}
@@ -45,7 +45,7 @@ module _ (old new : Parts) (events id : ℕ) (invariants : PartsInvariant old ev
   abbrev device : machine.Device
   device = shown_device old.driver.devices (flights_of old.iommu).rows found.device
 
-  module _ (made : MadeAt) (is : IsMade old.memory (flights_of old.iommu) id made new.memory (flights_of new.iommu)) (unreserved : is_marked old.driver.owners made.frame ≡ false) where
+  module _ (made : MadeAt) (is : IsMade old.memory (flights_of old.iommu) id made new.memory (flights_of new.iommu)) (unreserved : has_owner old.driver.owners made.frame ≡ false) where
     abbrev oldest : AcceptedAccess
     oldest = is.oldest.accepted
 
@@ -132,7 +132,7 @@ module _ (old new : Parts) (events id : ℕ) (invariants : PartsInvariant old ev
         step_kind is.oldest.accepted.access.kind refl reply is.performed (subst (λ (m : MadeAt). TellsKind old.memory m m.kind reply) is.reply tells)
 
   step_oldest : (made : Option MadeAt) (reply : Outcome) → TellsMade old.memory made reply → CommitsOldest old.memory old.iommu id made new.memory new.iommu
-      → IfSome made (λ it. is_marked old.driver.owners it.frame ≡ false) → Steps state id reply new
+      → IfSome made (λ it. has_owner old.driver.owners it.frame ≡ false) → Steps state id reply new
   step_oldest None reply tells call unreserved =
       let idle = call.makes.0 in
       let empty : in_flight_of rows found.device.id ≡ [] =

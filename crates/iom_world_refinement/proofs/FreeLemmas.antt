@@ -7,12 +7,12 @@ use Rattle.iom_ledger.proofs.AgreementLemmas.{some_row_from_May, May_from_some_r
 use Rattle.iom_machine.specs.declared.state.State.{State}
 use Rattle.iom_machine.specs.Frames.{IsFree}
 use Rattle.iom_base.specs.declared.owner.Owner.{Owner}
-use Rattle.iom_table_frames.specs.Owners.{is_marked, IsFreeForTable}
+use Rattle.iom_table_frames.specs.Owners.{has_owner, IsFreeForTable}
 use Rattle.iom_world_effects.specs.Frames.{ShowsFrames}
 use Rattle.iom_world_effects.proofs.FrameLemmas.{reserved_shown}
 
 pub free_in_machine : (memory : List (List ℕ)) (owners : List (Option Owner)) (ledger : Ledger) (state : State) (n : ℕ) → Agrees ledger state.history → ShowsFrames memory owners state.frames
-    → n < length memory → is_marked owners n ≡ false → IsFreeIn ledger n → IsFree state n
+    → n < length memory → has_owner owners n ≡ false → IsFreeIn ledger n → IsFree state n
 free_in_machine memory owners ledger state n agrees shows inside unmarked free = (
   subst (λ m. n < m) (sym shows.size) inside,
   reserved_shown memory owners state.frames n shows ∙ unmarked,

@@ -10,7 +10,7 @@ use Rattle.iom_driver.specs.declared.device.Attachment.{Attachment}
 use Rattle.iom_driver.specs.declared.device.Attachment.TheVariants.{Detached, Attached, Quarantined, Leaving}
 use Rattle.iom_driver.specs.declared.device.Stages.{Stages}
 use Rattle.iom_driver.specs.Calls.{AnswersGrant, TakesTables, LacksTables, granted_leaf}
-use Rattle.iom_driver.specs.Choices.{marked_for, cleared}
+use Rattle.iom_driver.specs.Choices.{owned_by, cleared}
 use Rattle.iom_driver.specs.Devices.{has_device, attachment_by_id, attached_stages, stages_of, is_away, is_quarantined}
 use Rattle.iom_driver.specs.Reasons.{why_not_grant, granting_reasons}
 use Rattle.iom_driver.specs.State.{DriverState}
@@ -103,7 +103,7 @@ shows_granted : (old new : Parts) (id page frame : ℕ) (rights : GrantRights) �
 shows_granted old new id page frame rights many takes iommu devices state shows =
     let d = old.driver in
     let chosen = are_chosen d.owners d.ledger (Some frame) (length old.memory) (missing_for (size_in takes.stage.mode) old.memory takes.stage.root page) takes.tables takes.chosen in
-    let owners : new.driver.owners ≡ marked_for (OneDevice id) takes.tables d.owners = ap (λ (x : DriverState). x.owners) takes.driver in
+    let owners : new.driver.owners ≡ owned_by (OneDevice id) takes.tables d.owners = ap (λ (x : DriverState). x.owners) takes.driver in
     let marked = shows_marked (OneDevice id) takes.tables old.memory d.owners state.frames shows.frames (sym many) chosen.inside in
     let kept = subst (λ ms. ShowsFrames old.memory ms (reserved_for (OneDevice id) takes.tables state.frames)) (sym owners) marked in
     record {

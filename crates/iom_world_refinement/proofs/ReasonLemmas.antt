@@ -32,7 +32,7 @@ use Rattle.iom_machine.specs.declared.state.Attachment.TheVariants.{Detached}
 use Rattle.iom_machine.specs.declared.state.Device as declared
 use Rattle.iom_machine.specs.declared.state.Limits.{Limits}
 use Rattle.iom_machine.specs.declared.state.State.{State}
-use Rattle.iom_table_frames.specs.Owners.{is_marked}
+use Rattle.iom_table_frames.specs.Owners.{has_owner}
 use Rattle.iom_device.specs.declared.device.Device.{Device}
 use Rattle.iom_world_effects.specs.Devices.{shown_attachment, shown_devices}
 use Rattle.iom_world_effects.specs.Parts.{Parts}
@@ -306,7 +306,7 @@ grant_first parts events state id page frame invariants shows =
     (there_shown parts events state id invariants shows) (how_shown parts events state id invariants shows) invariants.started
     (λ stage is.
     grant_same (length state.frames) (length d.owners) (page_limit_under state.limits (attachment_of state id)) (page_limit_in (as_known.stages_of d.devices id)) page frame (is_reserved state.frames frame)
-    (is_marked d.owners frame) (is_held state id page || is_lingering state id page) (is_busy d id page)
+    (has_owner d.owners frame) (is_held state id page || is_lingering state id page) (is_busy d id page)
     (frames_shown parts events state invariants shows)
     (reserved_shown parts.memory d.owners state.frames frame shows.frames)
     (limit_shown parts events state id invariants shows stage is)

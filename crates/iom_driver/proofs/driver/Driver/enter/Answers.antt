@@ -9,7 +9,7 @@ use Rattle.iom_driver.specs.declared.device.Device.{Device}
 use Rattle.iom_driver.specs.declared.device.Stages.{Stages}
 use Rattle.iom_driver.specs.declared.driver.Driver.{Driver}
 use Rattle.iom_driver.specs.Attaching.{IsRootBelow, root_frames, limit_below}
-use Rattle.iom_driver.specs.Choices.{AreHighestFree, marked_for, cleared}
+use Rattle.iom_driver.specs.Choices.{AreHighestFree, owned_by, cleared}
 use Rattle.iom_driver.specs.Devices.{attachment_by_id, with_attachment}
 use Rattle.iom_driver.specs.Entering.{MayEnter}
 use Rattle.iom_driver.specs.Layout.{directory_frame, fault_frame}
@@ -23,7 +23,7 @@ use Rattle.iom_driver.proofs.AttachTables.{zeroed_maps_nothing, tables_attached}
 use Rattle.iom_driver.proofs.Directories.{stands_in, room_for_ids}
 use Rattle.iom_driver.proofs.Keeps.{sound_attached}
 use Rattle.iom_driver.proofs.Lists.{read_is, get_within}
-use Rattle.iom_driver.proofs.Owners.{Among, all_among, length-cleared, length-marked_for, cleared_append}
+use Rattle.iom_driver.proofs.Owners.{Among, all_among, length-cleared, length-owned_by, cleared_append}
 use Rattle.iom_driver.proofs.Modes.{root_among, frames_are}
 use Rattle.iom_driver.proofs.Places.{not_attached, attachment_set, attachment_other}
 use Rattle.iom_driver.proofs.StandingLemmas.{frames_keep, leaves_standing}
@@ -45,9 +45,9 @@ found driver memory id stages pages stand may =
 both_cleared : (memory before after : List (List ℕ)) (pages roots : List ℕ) → before ≡ cleared pages memory → after ≡ cleared roots before → after ≡ cleared (pages ++ roots) memory
 both_cleared memory before after pages roots is zero_is = zero_is ∙ ap (λ m. cleared roots m) is ∙ sym (cleared_append pages roots memory)
 
-both_marked : (id : ℕ) (owners before after : List (Option Owner)) (pages roots : List ℕ) → before ≡ marked_for System pages owners → after ≡ marked_for (OneDevice id) roots before
+both_marked : (id : ℕ) (owners before after : List (Option Owner)) (pages roots : List ℕ) → before ≡ owned_by System pages owners → after ≡ owned_by (OneDevice id) roots before
     → after ≡ taken_owners id pages roots owners
-both_marked id owners before after pages roots is mark_is = mark_is ∙ ap (λ (ms : List (Option Owner)). marked_for (OneDevice id) roots ms) is
+both_marked id owners before after pages roots is mark_is = mark_is ∙ ap (λ (ms : List (Option Owner)). owned_by (OneDevice id) roots ms) is
 
 -- the devices, once the one at the place is attached
 set_at : (devices : List Device) (id k : ℕ) (device : Device) (stages : Stages) → IsAttachmentPlace devices id k → device ≡ get_or devices k device
@@ -74,7 +74,7 @@ reserve_root-requires c =
     let stages = c.args.stages in
     let roots = root_frames stages.mode stages.root in
     let may = found driver memory c.args.id stages pages c.requires.stand c.requires.may in
-    let marks_long = ap (λ (ms : List (Option Owner)). length ms) c.reserve_all.ensures.owners ∙ length-marked_for System pages driver.owners ∙ driver.invariants.sizes.marked in
+    let marks_long = ap (λ (ms : List (Option Owner)). length ms) c.reserve_all.ensures.owners ∙ length-owned_by System pages driver.owners ∙ driver.invariants.sizes.marked in
     let memory_long = ap (λ (m : List (List ℕ)). length m) c.reserve_all.ensures.memory ∙ length-cleared pages memory ∙ may.size in
     let inside : stages.root < driver.frames = may.taken.inside stages.root (root_among stages.mode stages.root) in
     let most : driver.frames ≤ 4096 = driver.invariants.sizes.size.1 in

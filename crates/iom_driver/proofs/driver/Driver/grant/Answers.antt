@@ -16,7 +16,7 @@ use Rattle.iom_page_table.specs.declared.leaf.PageLeaf.{PageLeaf}
 use Rattle.iom_page_table.specs.FirstTables.{missing_for, mapped}
 use Rattle.iom_table_frames.specs.Owners.{HasFree}
 use Rattle.iom_driver.specs.Calls.{granted_leaf, KeepsOtherFrames, HasFrames, IsSame, LacksTables}
-use Rattle.iom_driver.specs.Choices.{AreHighestFree, marked_for, cleared}
+use Rattle.iom_driver.specs.Choices.{AreHighestFree, owned_by, cleared}
 use Rattle.iom_driver.specs.declared.device.Stages.{Stages}
 use Rattle.iom_driver.specs.Devices.{attachment_by_id, stages_of}
 use Rattle.iom_driver.specs.Layout.{directory_frame, fault_frame}
@@ -30,7 +30,7 @@ use Rattle.iom_driver.proofs.Directories.{directory_stay, in_stands, stands_in}
 use Rattle.iom_driver.proofs.GrantTables.{missing_few, may_be_mapped, IsMapped, mapped_is, granted_keeps, others_kept, kept_others, tables_granted}
 use Rattle.iom_driver.proofs.Keeps.{sound_granted}
 use Rattle.iom_driver.proofs.Limits.{low_in_any}
-use Rattle.iom_driver.proofs.Owners.{length-cleared, length-marked_for, mark_stays}
+use Rattle.iom_driver.proofs.Owners.{length-cleared, length-owned_by, mark_stays}
 use Rattle.iom_driver.proofs.Places.{attached_owns}
 use Rattle.iom_driver.proofs.StandingLemmas.{leaves_standing, one_changes, pages_stay}
 use Rattle.iom_driver.proofs.Unchanged.{all_stay, ready_from}
@@ -186,7 +186,7 @@ invariant_of-self-2 c =
     record {
       invariants =
           subst (λ (ms : List (Option Owner)). StateInvariant c.grant.new.self ms driver.devices.items driver.frames driver.levels driver.started driver.given driver.confirmed driver.restarts driver.restarted)
-          (sym (c.reserve_all.ensures.owners ∙ ap (λ fs. marked_for (OneDevice c.args.id) fs driver.owners) c.as_slice.ensures.value))
+          (sym (c.reserve_all.ensures.owners ∙ ap (λ fs. owned_by (OneDevice c.args.id) fs driver.owners) c.as_slice.ensures.value))
           (sound_granted driver.ledger c.grant.new.self driver.owners driver.devices.items driver.frames driver.levels driver.started driver.given driver.confirmed driver.restarts driver.restarted c.args.id c.args.mapping.page c.args.mapping.frame c.rights-rights.result c.in-Ok.stage tables
           driver.invariants granted may.attached (low_in_any (size_in c.in-Ok.stage.mode) c.args.mapping.page may.page_low) (unmarked driver.owners c.args.mapping.frame may.inside may.unreserved) chose.inside chose.free);
     }
@@ -269,7 +269,7 @@ returns-clause-effect c =
               long = c.map.ensures.size;
             } in
             subst (λ (ms : List (Option Owner)). KeepsOtherFrames ms c.args.id memory c.map.new.memory)
-            (sym (c.reserve_all.ensures.owners ∙ ap (λ fs. marked_for (OneDevice c.args.id) fs driver.owners) c.as_slice.ensures.value))
+            (sym (c.reserve_all.ensures.owners ∙ ap (λ fs. owned_by (OneDevice c.args.id) fs driver.owners) c.as_slice.ensures.value))
             (others_kept memory c.map.new.memory driver.owners driver.ledger c.args.id c.in-Ok.stage.mode root c.args.mapping.page c.args.mapping.frame c.missing-lacking.result leaf tables (sym c.requires.stand.size)
             (c.requires.stand.tables c.args.id c.in-Ok.stage (attached_owns (attachment_by_id driver.devices.items c.args.id) c.in-Ok.stage c.in-Ok.ensures.may.attached))
             (chosen_below driver.owners driver.ledger c.args.mapping.frame driver.frames c.missing-lacking.result tables memory many c.in-Some.ensures.chosen) mapped_so);
@@ -330,9 +330,9 @@ returns-clause-stand c =
     let granted = ok_then c.grant.result (sym c.is_err.ensures.value ∙ c.if-is_err.false) c.grant.ensures.granted in
     let many = sym (c.requires.stand.size ∙ driver.invariants.sizes.marked) in
     let chose = chosen_below driver.owners driver.ledger c.args.mapping.frame driver.frames c.missing-lacking.result tables memory many c.in-Some.ensures.chosen in
-    let owners = c.reserve_all.ensures.owners ∙ ap (λ fs. marked_for (OneDevice c.args.id) fs driver.owners) c.as_slice.ensures.value in
+    let owners = c.reserve_all.ensures.owners ∙ ap (λ fs. owned_by (OneDevice c.args.id) fs driver.owners) c.as_slice.ensures.value in
     record {
-      size = mapped_so.long ∙ length-cleared tables memory ∙ c.requires.stand.size ∙ sym (length-marked_for (OneDevice c.args.id) tables driver.owners) ∙ sym (ap (λ (ms : List (Option Owner)). length ms) owners);
+      size = mapped_so.long ∙ length-cleared tables memory ∙ c.requires.stand.size ∙ sym (length-owned_by (OneDevice c.args.id) tables driver.owners) ∙ sym (ap (λ (ms : List (Option Owner)). length ms) owners);
       tables =
           subst (λ (ms : List (Option Owner)). HaveTables c.map.new.memory ms c.grant.new.self driver.devices.items) (sym owners)
           (tables_granted memory c.map.new.memory driver.owners driver.ledger c.grant.new.self driver.devices.items c.args.id c.args.mapping.page c.args.mapping.frame c.missing-lacking.result c.rights-rights.result c.in-Ok.stage tables
@@ -363,7 +363,7 @@ returns-clause-ready c = λ r ready.
     let many : length memory ≡ driver.frames = c.requires.stand.size ∙ driver.invariants.sizes.marked in
     let system : slice_get driver.owners (fault_frame (length memory)) ≡ Some (Some System) = ap (λ n. slice_get driver.owners (fault_frame n)) many ∙ driver.invariants.fixed.fault in
     let chose = chosen_below driver.owners driver.ledger c.args.mapping.frame driver.frames c.missing-lacking.result tables memory (sym many) c.in-Some.ensures.chosen in
-    let owners = c.reserve_all.ensures.owners ∙ ap (λ fs. marked_for (OneDevice c.args.id) fs driver.owners) c.as_slice.ensures.value in
+    let owners = c.reserve_all.ensures.owners ∙ ap (λ fs. owned_by (OneDevice c.args.id) fs driver.owners) c.as_slice.ensures.value in
     let still = ap (λ (ms : List (Option Owner)). slice_get ms (fault_frame (length memory))) owners ∙ mark_stays (OneDevice c.args.id) (fault_frame (length memory)) tables driver.owners
     (owned_not_chosen driver.owners driver.ledger (Some c.args.mapping.frame) (length memory) c.missing-lacking.result (fault_frame (length memory)) tables System (sym c.requires.stand.size) chose system) ∙ system in
     let unreported = (returns-clause-effect c).1.others (fault_frame (length memory)) (λ own. system_device c.args.id (sym still ∙ own)) in

@@ -10,7 +10,7 @@ loop-frame-preserved c =
     let inside : n < length c.args.memory.now = omega (arith, c.frames-frame-end.ensures) in
     elim c.if-is_owned_by.branch [
       | then-is_owned_by w ↦
-          rw (w.self-is, w.memory-is, w.release.ensures.mark, w.release.ensures.zero) (GivesBackBelow-own n c.args.owner c.args.self.now c.loop-frame.self c.args.memory.now c.loop-frame.memory c.loop-frame.invariant
+          rw (w.self-is, w.memory-is, w.release.ensures.owners, w.release.ensures.zero) (GivesBackBelow-own n c.args.owner c.args.self.now c.loop-frame.self c.args.memory.now c.loop-frame.memory c.loop-frame.invariant
           (omega arith) inside (c.is_owned_by.ensures.0 w.if-is_owned_by.true))
       | else-is_owned_by w ↦
           rw (w.self-is, w.memory-is) (GivesBackBelow-other n c.args.owner c.args.self.now c.loop-frame.self c.args.memory.now c.loop-frame.memory c.loop-frame.invariant
