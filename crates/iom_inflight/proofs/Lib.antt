@@ -1,6 +1,7 @@
 pub mod Accesses
 pub mod RowCalls
 pub mod Rows
+pub mod Oldest
 pub mod Kept
 pub mod InMemory
 pub mod ByPlace

@@ -85,6 +85,11 @@ abbrev pub MakesOldestInFlight : List (List ℕ) → Flights → ℕ → Option 
 MakesOldestInFlight memory old device None new_memory new = IsIdle old device × (new_memory ≡ memory) × (new ≡ old)
 MakesOldestInFlight memory old device (Some made) new_memory new = IsMade memory old device made new_memory new
 
+-- WHAT A COMMIT WOULD MAKE of the device: what it makes, whatever memory holds
+abbrev pub WouldMakeOldest : Flights → ℕ → Option MadeAt → Type 0
+WouldMakeOldest old device made = (memory : List (List ℕ)) (answer : Option MadeAt) (new_memory : List (List ℕ)) (new : Flights)
+    → MakesOldestInFlight memory old device answer new_memory new → answer ≡ made
+
 -- the frame of the oldest of these is one of so many
 abbrev pub IsFirstIn : ℕ → List NumberedAccess → Type 0
 IsFirstIn frames [] = Unit {0}

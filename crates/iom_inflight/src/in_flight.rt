@@ -3,7 +3,7 @@ ghost use Rattle.iom_base.specs.Accesses.{read_of, write_of};
 ghost use Rattle.iom_base.specs.Sizes.{in_flight_limit, device_limit};
 ghost use Rattle.iom_base.specs.Spans.{FitsInPage};
 ghost use Rattle.iom_inflight.specs.Flights.{Flights, no_flights, row_of, IsAddedTo, count_in, accepted_in, count_all, waiting_at, oldest_in, oldest_number_in, first_busy, some_in_flight, are_drained};
-ghost use Rattle.iom_inflight.specs.Calls.{Adds, Accepts, MakesOldestInFlight, IsReadyToCommit};
+ghost use Rattle.iom_inflight.specs.Calls.{Adds, Accepts, MakesOldestInFlight, WouldMakeOldest, IsReadyToCommit};
 ghost use Rattle.iom_inflight.specs.Rows.{RowStandsAt};
 ghost use Rattle.iom_inflight.specs.Invariant.{AreFlights};
 
@@ -198,8 +198,10 @@ impl InFlight {
 
     /// What [`make`](InFlight::make) would make; None where nothing of the device is in flight, or it wasn't
     /// added.
+    #[tactic(auto, using(crate::proofs::Oldest::would_make))]
     pub fn oldest(&self, device: DeviceId) -> Option<MadeAt>
-        ensures { result ≡ oldest_in (row_of self.now.rows device) }
+        ensures value { result ≡ oldest_in (row_of self.now.rows device) }
+        ensures commit { WouldMakeOldest self.now device result }
     {
         let place = find(&self.rows, device)?;
         self.rows[place].oldest()

@@ -3,7 +3,7 @@ ghost use Rattle.std.specs.Prelude.{◌≡◌, ◌<◌, ◌≤◌, ◌+◌, ◌*
 ghost use Rattle.iom_base.specs.Sizes.{in_flight_limit, device_limit};
 ghost use Rattle.iom_inflight.specs.Flights.{count_in, accepted_in, count_all, first_busy, oldest_in, oldest_number_in, row_of};
 ghost use Rattle.iom_inflight.specs.Invariant.{CarriesBytes};
-ghost use Rattle.iom_inflight.specs.Calls.{IsAccepted};
+ghost use Rattle.iom_inflight.specs.Calls.{IsAccepted, WouldMakeOldest};
 ghost use Rattle.iom_inflight.specs.Rows.{RowStandsAt};
 ghost use Rattle.iom_base.specs.Spans.{FitsInPage};
 ghost use Rattle.iom_iommu.specs.Parts.{IsAdded, flights_of, frames_of, registers_of};
@@ -142,7 +142,8 @@ impl<C: TransCache> Iommu<C> {
 
     /// What [`commit`](Iommu::commit) would make.
     pub fn oldest(&self, device: DeviceId) -> Option<MadeAt>
-        ensures { result ≡ oldest_in (row_of (flights_of self.now).rows device) }
+        ensures value { result ≡ oldest_in (row_of (flights_of self.now).rows device) }
+        ensures commit { WouldMakeOldest (flights_of self.now) device result }
     {
         self.in_flight.oldest(device)
     }
