@@ -1,6 +1,6 @@
 # Writes a script just below the limit of 1,048,576 bytes to NAME.script, and to NAME.lines what it must
 # print, which follows from the pattern. Called as: awk -v name=hot -f workloads.awk
-# (`driver` is a script of iommu-hw, which answers a line behind the line itself.)
+# (`driver` is a script of iommu-hw.)
 function say(line, told) {
     size += length(line) + 1
     if (size > 1048576) exit
@@ -30,9 +30,6 @@ function started(frames, mode) {
     say("attach 000001 " (mode == "" ? "first" : mode), "ok")
 }
 
-# A line of a driver under test, and its answer.
-function drive(line, told) { say(line, line " => " told) }
-
 # So many bytes in hexadecimal that are this number, the lowest first.
 function little(number, count, k, text) {
     text = ""
@@ -42,26 +39,26 @@ function little(number, count, k, text) {
 
 # The driver's next command stands in its ring of 256, and its doorbell is rung.
 function queued(command) {
-    drive("poke 0x3f" sprintf("%03x", 16 * tail) " " command, "ok")
+    say("poke 0x3f" sprintf("%03x", 16 * tail) " " command, "ok")
     tail = (tail + 1) % 256
-    drive("mmio-write 36 4 0x" hexadecimal(tail), "ok")
+    say("mmio-write 36 4 0x" hexadecimal(tail), "ok")
 }
 
 # Queues, a directory of one page, and the tables of the device's pages 0 to 511 in frames 60, 59 and 58.
 function driver_started(k) {
-    drive("hardware 64", "ok")
-    drive("device 000001 raw", "ok")
-    for (k = 63; k >= 58; k--) drive("claim take " k, "good")
-    drive("mmio-write 24 8 0xfc07", "ok")
-    drive("mmio-write 72 4 0x1", "ok")
-    drive("mmio-write 40 8 0xf806", "ok")
-    drive("mmio-write 76 4 0x1", "ok")
-    drive("mmio-write 16 8 0xf402", "ok")
-    drive("poke 0x3d030 0050000000000000", "ok")
-    drive("poke 0x3d038 3c00000000000080", "ok")
-    drive("poke 0x3d020 0100000000000000", "ok")
-    drive("poke 0x3c000 01ec000000000000", "ok")
-    drive("poke 0x3b000 01e8000000000000", "ok")
+    say("hardware 64", "ok")
+    say("device 000001 raw", "ok")
+    for (k = 63; k >= 58; k--) say("claim take " k, "good")
+    say("mmio-write 24 8 0xfc07", "ok")
+    say("mmio-write 72 4 0x1", "ok")
+    say("mmio-write 40 8 0xf806", "ok")
+    say("mmio-write 76 4 0x1", "ok")
+    say("mmio-write 16 8 0xf402", "ok")
+    say("poke 0x3d030 0050000000000000", "ok")
+    say("poke 0x3d038 3c00000000000080", "ok")
+    say("poke 0x3d020 0100000000000000", "ok")
+    say("poke 0x3c000 01ec000000000000", "ok")
+    say("poke 0x3b000 01e8000000000000", "ok")
 }
 
 # The page of this number of 2,048, which lie behind four entries of the root of tables of four levels.
@@ -218,20 +215,20 @@ BEGIN {
         driver_started()
         for (i = 1; ; i++) {
             page = i * 29 % 512
-            drive("claim grant 000001 " page " 7 rw", "good")
-            drive("poke 0x3a" sprintf("%03x", 8 * page) " d71c000000000000", "ok")
-            drive("claim ready 000001 " page, "good")
-            drive("write 000001 0x" hexadecimal(4096 * page) " a5", "accepted " i)
-            drive("commit 000001", "wrote 1")
-            drive("claim release 000001 " page, "claim " i)
-            drive("poke 0x3a" sprintf("%03x", 8 * page) " 0000000000000000", "ok")
+            say("claim grant 000001 " page " 7 rw", "good")
+            say("poke 0x3a" sprintf("%03x", 8 * page) " d71c000000000000", "ok")
+            say("claim ready 000001 " page, "good")
+            say("write 000001 0x" hexadecimal(4096 * page) " a5", "accepted " i)
+            say("commit 000001", "wrote 1")
+            say("claim release 000001 " page, "claim " i)
+            say("poke 0x3a" sprintf("%03x", 8 * page) " 0000000000000000", "ok")
             queued("0154000001000000" little(1024 * page, 8))
             queued("02300000000000000000000000000000")
-            drive("fetch", "did iotinval.vma")
-            drive("fetch", "did iofence.c")
-            drive("claim done " i, "good")
-            drive("claim handoff 7", "good")
-            drive("claim take 7", "good")
+            say("fetch", "did iotinval.vma")
+            say("fetch", "did iofence.c")
+            say("claim done " i, "good")
+            say("claim handoff 7", "good")
+            say("claim take 7", "good")
         }
     }
 }
