@@ -71,6 +71,15 @@ all_are_values xs long =
       λ all. eq-eqb mask 65535 (omega (arith, is, power, full_mask xs all)),
     )
 
+pub all_32_are_values : (xs : List ℕ) → length xs ≡ 32 → IsTrue (nat_eq (mask_l (map (top 7) (zip2 less xs (replicate 32 16))) % 2 ^ 64) 4294967295) ↔ AreValues xs
+all_32_are_values xs long =
+    let mask = mask_l (map (top 7) (zip2 less xs (replicate 32 16))) % 2 ^ 64 in
+    let is : mask ≡ mask_l (map (λ x. ltb x 16) xs) = bitmask_splat w8 ltb xs 32 16 long (omega arith) in
+    let power : 2 ^ length xs ≡ 4294967296 = ap (λ n. 2 ^ n) long in (
+      λ full. mask_is_full xs (omega (arith, is, power, eqb-true mask 4294967295 full)),
+      λ all. eq-eqb mask 4294967295 (omega (arith, is, power, full_mask xs all)),
+    )
+
 -- a lane of two values, the first in the lower byte, and the byte that has them
 abbrev lane_byte : ℕ → ℕ
 lane_byte pair = (pair % 256 * 16 % 65536 + pair / 256) % 65536

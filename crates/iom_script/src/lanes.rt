@@ -1,4 +1,4 @@
-//! Sixteen hexadecimal digits at once.
+//! Sixteen hexadecimal digits at once, or 32.
 ghost use Rattle.std.specs.Prelude.{◌≡◌, ◌<◌, ◌↔◌, length, map, IsTrue};
 ghost use Rattle.std.specs.List.{AllByRecursion};
 ghost use Rattle.iom_script.specs.Digits.{hex_digit};
@@ -8,21 +8,28 @@ ghost use Rattle.iom_script.specs.Cuts.{value_of_digit, IsHexOf};
 use std::simd::prelude::*;
 
 /// The value of each byte as a lower-case hexadecimal digit, or 255.
-fn values_of(text: u8x16) -> u8x16
-    ensures { result ≡ map value_of_digit text }
+fn values_of<const N: usize>(text: Simd<u8, N>) -> Simd<u8, N>
+    ensures { result ≡ map value_of_digit text.entry }
 {
-    let decimal = text - u8x16::splat(b'0');
-    let letter = text - u8x16::splat(b'a');
-    let is_letter = letter.simd_lt(u8x16::splat(6));
-    let other = is_letter.select(letter + u8x16::splat(10), u8x16::splat(255));
-    decimal.simd_lt(u8x16::splat(10)).select(decimal, other)
+    let decimal = text - Simd::splat(b'0');
+    let letter = text - Simd::splat(b'a');
+    let is_letter = letter.simd_lt(Simd::splat(6));
+    let other = is_letter.select(letter + Simd::splat(10), Simd::splat(255));
+    decimal.simd_lt(Simd::splat(10)).select(decimal, other)
 }
 
-/// Whether all of them are below 16.
+/// Whether all of sixteen are below 16.
 fn are_values(values: u8x16) -> bool
     ensures { IsTrue result ↔ AllByRecursion (λ value. value < 16) values }
 {
     values.simd_lt(u8x16::splat(16)).to_bitmask() == 0xffff
+}
+
+/// Whether all of 32 are below 16.
+fn are_all_values(values: u8x32) -> bool
+    ensures { IsTrue result ↔ AllByRecursion (λ value. value < 16) values }
+{
+    values.simd_lt(u8x32::splat(16)).to_bitmask() == 0xffff_ffff
 }
 
 /// The bytes that have two of these values each, the higher half first.
@@ -36,6 +43,16 @@ fn joined(values: u8x16) -> [u8; 8]
     bytes.cast::<u8>().to_array()
 }
 
+/// The same of twice as many.
+fn all_joined(values: u8x32) -> [u8; 16]
+    requires { AllByRecursion (λ value. value < 16) values }
+    ensures { IsHexOf (map hex_digit values) result }
+{
+    let pairs = u16x16::from_le_bytes(values);
+    let bytes = pairs % u16x16::splat(256) * u16x16::splat(16) + pairs / u16x16::splat(256);
+    bytes.cast::<u8>().to_array()
+}
+
 /// The eight bytes that sixteen hexadecimal digits say.
 pub fn eight_bytes(digits: &[u8]) -> Option<[u8; 8]>
     requires { length digits.now ≡ 16 }
@@ -44,6 +61,19 @@ pub fn eight_bytes(digits: &[u8]) -> Option<[u8; 8]>
     let values = values_of(u8x16::from_slice(digits));
     if are_values(values) {
         Some(joined(values))
+    } else {
+        None
+    }
+}
+
+/// The sixteen bytes that 32 hexadecimal digits say.
+pub fn sixteen_bytes(digits: &[u8]) -> Option<[u8; 16]>
+    requires { length digits.now ≡ 32 }
+    ensures { Reads result (IsHexOf digits.now) }
+{
+    let values = values_of(u8x32::from_slice(digits));
+    if are_all_values(values) {
+        Some(all_joined(values))
     } else {
         None
     }

@@ -7,6 +7,7 @@ ghost use Rattle.iom_script.specs.Reading.{Reads};
 ghost use Rattle.iom_script.specs.Cuts.{shown, shown_rest, with_rest, IsCut, BeginsWithWord, LeadsWithHex, LeadsWithDecimal, LeadsWithNumber, SaysFirst};
 
 pub use crate::lanes::eight_bytes;
+use crate::lanes::sixteen_bytes;
 use iom_base::{DeviceId, GrantRights, Mode, NewDevice, Sequence, Size};
 use iom_fabric::PageNumber;
 use memchr::{memchr, memchr_iter};
@@ -275,14 +276,14 @@ pub fn byte_of(high: u8, low: u8) -> Option<u8>
     Some(high * 16 + low)
 }
 
-/// The bytes that whole groups of sixteen digits say, with room for all of the text's.
+/// The bytes that whole groups of 32 digits say, with room for all of the text's.
 fn first_bytes(alloc: Global, text: &[u8]) -> Result<Option<Vec<u8>>, AllocError>
-    ensures { IfOk result (λ read. MatchOption read (Reads None (IsHex text.now)) (λ bytes. SaysFirst text.now (8 * (length text.now / 16)) bytes.items)) }
+    ensures { IfOk result (λ read. MatchOption read (Reads None (IsHex text.now)) (λ bytes. SaysFirst text.now (16 * (length text.now / 32)) bytes.items)) }
 {
     let mut bytes = Vec::with_capacity(alloc, text.len() / 2)?;
-    for group in 0..text.len() / 16 {
-        match eight_bytes(&text[16 * group..16 * group + 16]) {
-            Some(eight) => bytes.extend_from_slice(&eight)?,
+    for group in 0..text.len() / 32 {
+        match sixteen_bytes(&text[32 * group..32 * group + 32]) {
+            Some(sixteen) => bytes.extend_from_slice(&sixteen)?,
             None => return Ok(None),
         }
     }
