@@ -18,6 +18,11 @@ held_of_past kept h past device page = sym (
     ∙ held_at-named kept.names.keys past.placed device page
     ∙ ap (option_map (named_pair kept.names.keys)) (past.grants.pages device page).holds)
 
+-- what two devices hold alike by the history they hold alike
+pub held_alike : (kept : KeptGrants) (h : History) → IsPastOf kept h → (one other page : ℕ) → held_at h one page ≡ held_at h other page
+    → held_by kept one page ≡ held_by kept other page
+held_alike kept h past one other page same = held_of_past kept h past one page ∙ same ∙ sym (held_of_past kept h past other page)
+
 -- what lingers
 pub lingering_of_past : (kept : KeptGrants) (h : History) → IsPastOf kept h → (device page : ℕ)
     → lingering_at h device page ≡ map (named_release kept.names.keys) (option_to_list (released_in kept.ledger device page))

@@ -170,8 +170,8 @@ impl KeptGrants {
 
     /// Whether the one device holds what the other holds, at each page of this one.
     fn agree_at_pages(&self, of: DeviceId, one: DeviceId, other: DeviceId) -> bool
-        ensures { IsTrue result → (k page : ℕ) → slice_get (pages_by self.now of) k ≡ Some page
-            → held_by self.now one page ≡ held_by self.now other page }
+        ensures { IsTrue result ↔ ((k page : ℕ) → slice_get (pages_by self.now of) k ≡ Some page
+            → held_by self.now one page ≡ held_by self.now other page) }
     {
         for index in 0..self.page_count(of) {
             let Some(page) = self.page_at(of, index) else {
@@ -186,7 +186,7 @@ impl KeptGrants {
 
     /// Whether the one device holds what the other holds, at each page.
     pub fn hold_the_same(&self, one: DeviceId, other: DeviceId) -> bool
-        ensures { (h : History) → IsPastOf self.now h → IsTrue result → (page : ℕ) → held_at h one page ≡ held_at h other page }
+        ensures { (h : History) → IsPastOf self.now h → IsTrue result ↔ ((page : ℕ) → held_at h one page ≡ held_at h other page) }
     {
         if !self.agree_at_pages(one, one, other) {
             return false;

@@ -10,6 +10,6 @@ returns c = λ h past same.
       first_itself = sym (rw c.in_default.is at c.first_with.ensures);
       attached = settled.0;
       mode = ap mode_at (sym (c.attachment.ensures h)) ∙ c.have_one_mode.ensures c.if-not-have_one_mode.false ∙ ap mode_at (c.attachment-2.ensures h);
-      same = c.hold_the_same.ensures h past same;
+      same = (c.hold_the_same.ensures h past).0 same;
       settled = settled.1;
     }
