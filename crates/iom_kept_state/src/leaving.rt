@@ -31,7 +31,7 @@ fn once_confirmed(grants: &KeptGrants, attachment: Attachment) -> Attachment
 }
 
 /// The plugged device with this id.
-fn device_with(devices: &[Device], id: DeviceId) -> Option<&Device>
+pub(crate) fn device_with(devices: &[Device], id: DeviceId) -> Option<&Device>
     ensures { option_copied result ≡ find (λ device. device.id == id) devices.now }
 {
     devices.iter().find(|device| device.id == id)

@@ -21,5 +21,6 @@ mod wanted;
 
 pub use frames::{KeptFrame, KeptFrames};
 pub use grants::KeptGrants;
+pub use returning::is_attached;
 pub use state::KeptState;
 pub use tickets::ConfirmedTickets;

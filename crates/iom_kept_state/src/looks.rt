@@ -82,7 +82,7 @@ impl KeptGrants {
 
     /// Whether the device could reach the frame by an access of this kind, were the tickets from the first to the last confirmed:
     /// none, where the last comes right before the first. It is looked for at this page first, so that the others needn't be.
-    fn may_besides(
+    pub fn may_once(
         &self,
         device: DeviceId,
         page: u64,
@@ -111,32 +111,13 @@ impl KeptGrants {
         wanted.is_held_near(&self.ledger, noted, page) || wanted.is_anywhere(&self.ledger)
     }
 
-    /// Whether the device could reach the frame by an access of this kind, were the tickets from the first to the last confirmed. It
-    /// is looked for at this page first, so that the others needn't be.
-    pub fn may_once(
-        &self,
-        device: DeviceId,
-        page: u64,
-        frame: u64,
-        kind: AccessKind,
-        first: u32,
-        last: u32,
-    ) -> bool
-        requires { first ≤ last }
-        ensures may { (h : History) → IsPastOf self.now h
-            → IsTrue result ↔ May (confirmed_from first (suc (last - first)) h) device frame kind }
-        ensures low { IsTrue result → frame < 2 ^ 40 }
-    {
-        self.may_besides(device, page, frame, kind, first, last)
-    }
-
     /// Whether the device may reach the frame by an access of this kind. It is looked for at this page first, so that the others
     /// needn't be.
     pub fn may(&self, device: DeviceId, page: u64, frame: u64, kind: AccessKind) -> bool
         ensures may { (h : History) → IsPastOf self.now h → IsTrue result ↔ May h device frame kind }
         ensures low { IsTrue result → frame < 2 ^ 40 }
     {
-        self.may_besides(device, page, frame, kind, 1, 0)
+        self.may_once(device, page, frame, kind, 1, 0)
     }
 
     /// Whether the frame lingers at some page of the device, with a right that allows the kind.

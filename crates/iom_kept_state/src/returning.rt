@@ -1,16 +1,16 @@
 //! Tables that are given back of devices that stay attached.
-ghost use Rattle.std.specs.Prelude.{◌≡◌, ◌↔◌, ℕ, [], All, IsTrue, Some};
-ghost use Rattle.iom_kept_state.specs.Words.{History, lingering_at, OneDevice, empty_frame, attachment_of, is_attached, frames_returned, MayGiveBack, MayGiveBackOf, with_returned, frames_in, ChangesFrame, IsPastOf, state_of};
+ghost use Rattle.std.specs.Prelude.{◌≡◌, ◌==◌, ◌↔◌, ℕ, [], All, IsTrue, Some, find};
+ghost use Rattle.iom_kept_state.specs.Words.{option_copied, History, lingering_at, OneDevice, empty_frame, attachment_of, is_attached, frames_returned, MayGiveBack, MayGiveBackOf, with_returned, frames_in, ChangesFrame, IsPastOf, state_of};
 
 use crate::frames::KeptFrames;
 use crate::grants::KeptGrants;
-use crate::leaving::attachment_in;
+use crate::leaving::{attachment_in, device_with};
 use crate::state::KeptState;
 use iom_base::{DeviceId, Owner};
-use iom_machine::Attachment;
+use iom_machine::{Attachment, Device};
 
 /// Whether the device is attached.
-fn is_attached(attachment: Attachment) -> bool
+pub fn is_attached(attachment: Attachment) -> bool
     ensures { result ≡ is_attached attachment }
 {
     matches!(attachment, Attachment::Attached { .. })
@@ -44,6 +44,13 @@ impl KeptGrants {
 }
 
 impl KeptState {
+    /// The plugged device with this id.
+    pub fn device(&self, id: DeviceId) -> Option<&Device>
+        ensures { option_copied result ≡ find (λ device. device.id == id) self.now.devices }
+    {
+        device_with(self.devices.as_slice(), id)
+    }
+
     /// How the device is attached; detached, where there is none.
     pub fn attachment(&self, device: DeviceId) -> Attachment
         ensures { (h : History) → result ≡ attachment_of (state_of self.now h) device }

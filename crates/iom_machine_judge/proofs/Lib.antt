@@ -1,3 +1,4 @@
+mod AnsweredLemmas
 mod BlockLemmas
 pub mod DecidedLemmas
 pub mod LeftLemmas

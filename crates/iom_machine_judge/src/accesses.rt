@@ -25,7 +25,7 @@ pub(crate) fn access_with(
 }
 
 /// The access that the event asks for, by whichever way; that of another event means nothing.
-pub(crate) fn access_of(alloc: Global, event: &Event) -> Result<Access, AllocError>
+pub fn access_of(alloc: Global, event: &Event) -> Result<Access, AllocError>
     ensures { IfOk result (λ access. access ≡ asked_by event.now) }
 {
     match event {

@@ -15,7 +15,7 @@ use iom_machine::{Choice, Event, Outcome};
 use std::alloc::Global;
 
 /// Whether a device of this kind can do what the event asks.
-fn is_able(event: &Event, kind: DeviceKind) -> bool
+pub fn is_able(event: &Event, kind: DeviceKind) -> bool
     ensures { result ≡ able_to event.now kind }
 {
     match event {

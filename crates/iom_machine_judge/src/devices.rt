@@ -1,19 +1,11 @@
 // Where a device stands, how it changes, and which ids the device directory can't name.
 ghost use Rattle.std.specs.Prelude.{◌≡◌, ◌<◌, ◌==◌, true, false, [], ◌∷◌, ◌++◌, length, find, slice_get, slice_set, MatchOption, OnOk, Some, None, drop, nat_le};
-ghost use Rattle.iom_machine_judge.specs.Words.{option_copied, StandsAt, leaving_under, quarantined_under, attached_again, id_limit, Device};
+ghost use Rattle.iom_machine_judge.specs.Words.{StandsAt, leaving_under, quarantined_under, attached_again, id_limit, Device};
 
 use iom_base::{AcceptedAccess, Access, DeviceId, Sequence};
 use iom_kept_state::KeptState;
 use iom_machine::{Attachment, Device};
 use std::alloc::AllocError;
-
-/// The plugged device with this id.
-pub(crate) fn device_with(kept: &KeptState, id: DeviceId) -> Option<&Device>
-    ensures { option_copied result ≡ find (λ device. device.id == id) kept.now.devices }
-{
-    let devices = kept.devices.as_slice();
-    devices.iter().find(|device| device.id == id)
-}
 
 /// The place of the device with this id.
 pub(crate) fn place_of(devices: &[Device], id: DeviceId) -> Option<usize>

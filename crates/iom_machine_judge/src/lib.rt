@@ -12,8 +12,8 @@
 //! call the judge. The judge of traces and tests call it.
 #![tactic(auto)]
 
-mod accesses;
-mod acts;
+pub mod accesses;
+pub mod acts;
 mod block_devices;
 pub mod calls;
 mod commits;

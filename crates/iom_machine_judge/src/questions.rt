@@ -3,7 +3,6 @@ ghost use Rattle.std.specs.Prelude.{◌≡◌, ◌↔◌, IsTrue, IsSomeAnd, Som
 ghost use Rattle.iom_machine_judge.specs.Words.{IsPastOf, state_of, DecidesUnchanged, History, Lingers, May, Attached, device_of, Delivers, LingersSomewhere, MayShow, IsForEachKind, MayTellFormerly, MayTellUnderTicket, MayTell};
 ghost use Rattle.iom_fabric.specs.declared.message.Translation.TheVariants.{Refused};
 
-use crate::devices::device_with;
 use crate::under_ticket::{cause_without_context, is_page_fault_of, is_page_fault_of_either};
 use iom_base::{AccessKind, Cause, DeviceId, Mode, Rights};
 use iom_fabric::Translation;
@@ -162,12 +161,8 @@ pub fn may_tell(
                 is_refused_with(reply, Cause::TransactionTypeDisallowed)
             }
         }
-        Attachment::Quarantined { ticket, mode, ats } => {
-            tells_under_ticket(ticket, mode, ats, kept, id, page, reply)
-        }
-        Attachment::Leaving { ticket, mode, ats } => {
-            tells_under_ticket(ticket, mode, ats, kept, id, page, reply)
-        }
+        Attachment::Quarantined { ticket, mode, ats } | Attachment::Leaving { ticket, mode, ats } =>
+            { tells_under_ticket(ticket, mode, ats, kept, id, page, reply) }
     }
 }
 
@@ -176,7 +171,7 @@ fn is_told(kept: &KeptState, asker: DeviceId, page: u64, reply: Translation) -> 
     ensures { (h : History) → IsPastOf kept.now.grants h → IsTrue result ↔ IsSomeAnd (device_of (state_of kept.now h) asker)
         (λ device. MayTell device.attachment (state_of kept.now h) device.id page reply) }
 {
-    match device_with(kept, asker) {
+    match kept.device(asker) {
         None => false,
         Some(device) => may_tell(device.attachment, kept, device.id, page, reply),
     }

@@ -1,18 +1,18 @@
 // The first refusal that applies.
-ghost use Rattle.std.specs.Prelude.{◌≡◌, ◌↔◌, ◌<◌, ◌^◌, ◌&&◌, ◌||◌, false, not, nat_le, is_some, IsTrue, IsNone, IsSome, MatchOption, None};
+ghost use Rattle.std.specs.Prelude.{◌≡◌, ◌↔◌, ◌<◌, ◌^◌, ◌&&◌, ◌||◌, ◌==◌, false, find, not, nat_le, is_some, IsTrue, IsNone, IsSome, MatchOption, None};
 ghost use Rattle.iom_machine_judge.specs.Words.{option_copied, option_map_or, has_cache, first_that_applies, History, plug_reasons, attach_reasons, detach_reasons, grant_reasons, release_reasons, quarantine_reasons, revive_reasons, frame_reasons};
-ghost use Rattle.iom_machine_judge.specs.Words.{poke_reasons, attachment_of, is_detached, is_leaving, is_quarantined, is_attached, may_still_reach, table_limit_at, is_held, is_lingering, has_grants, pending_tickets, IsPastOf, held_by, lingering_by, state_of};
+ghost use Rattle.iom_machine_judge.specs.Words.{poke_reasons, attachment_of, is_detached, is_leaving, is_quarantined, may_still_reach, table_limit_at, is_held, is_lingering, has_grants, pending_tickets, IsPastOf, held_by, lingering_by, state_of};
 
-use crate::devices::{device_with, too_wide};
+use crate::devices::too_wide;
 use crate::disks::is_missing;
 use iom_base::{DeviceId, NewDevice, Refusal};
-use iom_kept_state::KeptState;
+use iom_kept_state::{KeptState, is_attached};
 use iom_machine::{Attachment, Device};
 
-fn plugged(device: Option<&Device>) -> bool
-    ensures { result ≡ is_some (option_copied device.entry) }
+fn plugged(kept: &KeptState, id: DeviceId) -> bool
+    ensures { result ≡ is_some (find (λ device. device.id == id) kept.now.devices) }
 {
-    device.is_some()
+    kept.device(id).is_some()
 }
 
 fn detached(attachment: Attachment) -> bool
@@ -32,12 +32,6 @@ fn quarantined(attachment: Attachment) -> bool
     ensures { result ≡ is_quarantined attachment }
 {
     matches!(attachment, Attachment::Quarantined { .. })
-}
-
-fn attached(attachment: Attachment) -> bool
-    ensures { result ≡ is_attached attachment }
-{
-    matches!(attachment, Attachment::Attached { .. })
 }
 
 /// Whether it is quarantined under a ticket that isn't confirmed.
@@ -113,7 +107,7 @@ pub fn plug_refusal(kept: &KeptState, id: DeviceId, what: NewDevice) -> Option<R
     let devices = kept.devices.as_slice().len() as u64;
     let bad_medium = is_missing(kept.disks.as_slice(), what.disk());
     first_that_applies(&[
-        (plugged(device_with(kept, id)), Refusal::AlreadyPlugged),
+        (plugged(kept, id), Refusal::AlreadyPlugged),
         (devices >= kept.limits.devices, Refusal::TooManyDevices),
         (bad_medium, Refusal::BadMedium),
     ])
@@ -122,22 +116,20 @@ pub fn plug_refusal(kept: &KeptState, id: DeviceId, what: NewDevice) -> Option<R
 pub fn attach_refusal(kept: &KeptState, id: DeviceId, ats: bool) -> Option<Refusal>
     ensures { (h : History) → IsPastOf kept.now.grants h → result ≡ first_that_applies (attach_reasons (state_of kept.now h) id ats) }
 {
-    let device = device_with(kept, id);
     first_that_applies(&[
-        (!plugged(device), Refusal::NoSuchDevice),
+        (!plugged(kept, id), Refusal::NoSuchDevice),
         (!detached(kept.attachment(id)), Refusal::AlreadyAttached),
         (too_wide(kept, id), Refusal::IdTooWide),
-        (untrusted(device, ats), Refusal::NotTrusted),
+        (untrusted(kept.device(id), ats), Refusal::NotTrusted),
     ])
 }
 
 pub fn detach_refusal(kept: &KeptState, id: DeviceId) -> Option<Refusal>
     ensures { (h : History) → IsPastOf kept.now.grants h → result ≡ first_that_applies (detach_reasons (state_of kept.now h) id) }
 {
-    let device = device_with(kept, id);
     let attachment = kept.attachment(id);
     first_that_applies(&[
-        (!plugged(device), Refusal::NoSuchDevice),
+        (!plugged(kept, id), Refusal::NoSuchDevice),
         (not_attached(attachment), Refusal::NotAttached),
         (quarantined(attachment), Refusal::Quarantined),
         (still_granted(kept, id), Refusal::StillGranted),
@@ -157,11 +149,10 @@ pub fn grant_refusal(kept: &KeptState, id: DeviceId, page: u64, frame: u64) -> O
     ensures no_pair { IsNone result → (held_by kept.now.grants id page ≡ None) × (lingering_by kept.now.grants id page ≡ None) }
     ensures first { (h : History) → IsPastOf kept.now.grants h → result ≡ first_that_applies (grant_reasons (state_of kept.now h) id page frame) }
 {
-    let device = device_with(kept, id);
     let attachment = kept.attachment(id);
     let limit = kept.limits.page_limit(attachment);
     first_that_applies(&[
-        (!plugged(device), Refusal::NoSuchDevice),
+        (!plugged(kept, id), Refusal::NoSuchDevice),
         (not_attached(attachment), Refusal::NotAttached),
         (quarantined(attachment), Refusal::Quarantined),
         (frame >= kept.frames.count(), Refusal::FrameOutOfRange),
@@ -175,10 +166,9 @@ pub fn release_refusal(kept: &KeptState, id: DeviceId, page: u64) -> Option<Refu
     ensures held { IsNone result → IsSome (held_by kept.now.grants id page) }
     ensures first { (h : History) → IsPastOf kept.now.grants h → result ≡ first_that_applies (release_reasons (state_of kept.now h) id page) }
 {
-    let device = device_with(kept, id);
     let attachment = kept.attachment(id);
     first_that_applies(&[
-        (!plugged(device), Refusal::NoSuchDevice),
+        (!plugged(kept, id), Refusal::NoSuchDevice),
         (not_attached(attachment), Refusal::NotAttached),
         (quarantined(attachment), Refusal::Quarantined),
         (!held(kept, id, page), Refusal::NotGranted),
@@ -189,10 +179,9 @@ pub fn release_refusal(kept: &KeptState, id: DeviceId, page: u64) -> Option<Refu
 pub fn quarantine_refusal(kept: &KeptState, id: DeviceId) -> Option<Refusal>
     ensures { (h : History) → IsPastOf kept.now.grants h → result ≡ first_that_applies (quarantine_reasons (state_of kept.now h) id) }
 {
-    let device = device_with(kept, id);
     let attachment = kept.attachment(id);
     first_that_applies(&[
-        (!plugged(device), Refusal::NoSuchDevice),
+        (!plugged(kept, id), Refusal::NoSuchDevice),
         (not_attached(attachment), Refusal::NotAttached),
         (quarantined(attachment), Refusal::Quarantined),
         (too_many_pending(kept), Refusal::TooManyPending),
@@ -202,12 +191,11 @@ pub fn quarantine_refusal(kept: &KeptState, id: DeviceId) -> Option<Refusal>
 pub fn revive_refusal(kept: &KeptState, id: DeviceId) -> Option<Refusal>
     ensures { (h : History) → IsPastOf kept.now.grants h → result ≡ first_that_applies (revive_reasons (state_of kept.now h) id) }
 {
-    let device = device_with(kept, id);
     let attachment = kept.attachment(id);
     first_that_applies(&[
-        (!plugged(device), Refusal::NoSuchDevice),
+        (!plugged(kept, id), Refusal::NoSuchDevice),
         (not_attached(attachment), Refusal::NotAttached),
-        (attached(attachment), Refusal::AlreadyAttached),
+        (is_attached(attachment), Refusal::AlreadyAttached),
         (may_still_reach(kept, attachment), Refusal::StillGranted),
     ])
 }

@@ -1,5 +1,5 @@
 // What a device's request may be answered.
-ghost use Rattle.std.specs.Prelude.{◌≡◌, ◌↔◌, ◌+◌, ◌<◌, ◌^◌, IfOk, OnOk, IsTrue, Some, true, slice_get, length};
+ghost use Rattle.std.specs.Prelude.{◌≡◌, ◌↔◌, ◌+◌, ◌<◌, ◌^◌, IfOk, IsTrue, Some, true, slice_get, length};
 ghost use Rattle.iom_machine_judge.specs.Words.{FitsInPage, allows, Rights, IsPastOf, state_of, Decides, History, Device, IsBusy, IsForwarded, HoldsFor, HoldsNoneFor, LingersFor, MayAccept, MayFault, MayAcceptInOneStage, MayAnswer, state_after, StandsAt};
 
 use crate::devices::accept;
@@ -11,7 +11,6 @@ use crate::under_ticket::{
 use iom_base::{Access, AccessKind, Cause, DeviceId, Mode, PAGE_SIZE, Rights, Span};
 use iom_kept_state::{KeptGrants, KeptState};
 use iom_machine::{Attachment, Device, Outcome};
-use std::alloc::AllocError;
 
 /// Whether these are from 1 to 4,096 bytes, all in one page.
 pub(crate) fn is_within_page(address: u64, len: u64) -> bool
@@ -154,26 +153,6 @@ pub fn may_answer(
     }
 }
 
-/// The answer makes the state this.
-fn after_answer(
-    kept: &mut KeptState,
-    place: usize,
-    access: Access,
-    frame: u64,
-    outcome: &Outcome,
-) -> Result<(), AllocError>
-    requires { place < length kept.old.devices }
-    ensures grants { OnOk result (kept.new.grants ≡ kept.old.grants) }
-    ensures state { OnOk result ((device : Device) → StandsAt kept.old.devices device.id place → slice_get kept.old.devices place ≡ Some device
-        → (h : History) → MayAnswer (state_of kept.old h) device access frame outcome.now
-        → state_of kept.new h ≡ state_after (state_of kept.old h) device access frame outcome.now) }
-{
-    if let Outcome::Accepted(number) = outcome {
-        accept(&mut kept.devices, place, *number, access, frame)?;
-    }
-    Ok(())
-}
-
 /// Whether the request of the device at the place may be answered so, on this frame; what is kept is then what it leaves.
 pub(crate) fn answer_at(
     kept: &mut KeptState,
@@ -191,6 +170,8 @@ pub(crate) fn answer_at(
     if !may_answer(kept, device, &access, frame, outcome) {
         return Ok(false);
     }
-    after_answer(kept, place, access, frame, outcome)?;
+    if let Outcome::Accepted(number) = outcome {
+        accept(&mut kept.devices, place, *number, access, frame)?;
+    }
     Ok(true)
 }

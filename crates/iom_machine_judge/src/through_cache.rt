@@ -1,5 +1,5 @@
 // What may come of an access through the device's own cache of translations.
-ghost use Rattle.std.specs.Prelude.{◌≡◌, ◌↔◌, ◌<◌, ◌^◌, ℕ, IfOk, OnOk, IsTrue, Some, slice_get, length};
+ghost use Rattle.std.specs.Prelude.{◌≡◌, ◌↔◌, ◌<◌, ◌^◌, ℕ, IfOk, IsTrue, Some, slice_get, length};
 ghost use Rattle.iom_machine_judge.specs.Words.{at_frame, IsPastOf, state_of, Decides, History, Accepted, Device, MayHaveCached, MayGoThrough, MayAnswerThroughCache, state_after_cached, StandsAt};
 
 use crate::devices::accept;
@@ -10,7 +10,6 @@ use crate::under_ticket::accepts_under_ticket;
 use iom_base::{Access, DeviceId, Mode, PAGE_SIZE};
 use iom_kept_state::{KeptGrants, KeptState};
 use iom_machine::{Attachment, Device, Outcome};
-use std::alloc::AllocError;
 
 /// The access at its physical address, in the frame. The number of a frame has 40 bits, so the address is exact.
 fn at_frame(access: Access, frame: u64) -> Access
@@ -80,28 +79,6 @@ pub fn may_answer(
     }
 }
 
-/// It makes the state this.
-fn after_answer(
-    kept: &mut KeptState,
-    place: usize,
-    access: Access,
-    frame: u64,
-    outcome: &Outcome,
-) -> Result<(), AllocError>
-    requires place { place < length kept.old.devices }
-    requires low { (number : ℕ) → outcome.now ≡ Accepted number → frame < 2 ^ 40 }
-    ensures grants { OnOk result (kept.new.grants ≡ kept.old.grants) }
-    ensures state { OnOk result ((device : Device) → StandsAt kept.old.devices device.id place → slice_get kept.old.devices place ≡ Some device
-        → (h : History) → MayAnswerThroughCache (state_of kept.old h) device access frame outcome.now
-        → state_of kept.new h ≡ state_after_cached (state_of kept.old h) device access frame outcome.now) }
-{
-    if let Outcome::Accepted(number) = outcome {
-        let sent = at_frame(access, frame);
-        accept(&mut kept.devices, place, *number, sent, frame)?;
-    }
-    Ok(())
-}
-
 /// Whether this may come of an access of the device at the place through its cache, on this frame; what is kept is then what it leaves.
 pub(crate) fn answer_at(
     kept: &mut KeptState,
@@ -119,6 +96,9 @@ pub(crate) fn answer_at(
     if !may_answer(kept, device, &access, frame, outcome) {
         return Ok(false);
     }
-    after_answer(kept, place, access, frame, outcome)?;
+    if let Outcome::Accepted(number) = outcome {
+        let sent = at_frame(access, frame);
+        accept(&mut kept.devices, place, *number, sent, frame)?;
+    }
     Ok(true)
 }

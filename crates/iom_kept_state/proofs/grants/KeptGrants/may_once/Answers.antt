@@ -1,9 +1,39 @@
-use Rattle.std.proofs.Common.{◌≡◌, ◌-◌, ◌↔◌, ℕ, suc, IsTrue, subst, arith}
-use Rattle.iom_ledger.specs.History.{confirmed_from, May}
+use Rattle.std.proofs.Common.{true, refl, sym, ◌∙◌, arith}
+use Rattle.std.proofs.lemmas.Bool.{false≢true}
+use Rattle.iom_kept_state.specs.declared.wanted.Wanted.{Wanted}
+use Rattle.iom_kept_state.proofs.PastLemmas.{none_may, may_from_reached, reached_from_may, named_where_found}
+use Rattle.iom_kept_state.proofs.LowLemmas.{low_where_named}
 use Rattle.iom_kept_state.proofs.grants.KeptGrants.may_once.Goals as goal
 
-pub returns-clause-may : goal.returns-clause-may
-returns-clause-may c = λ h past.
-    let range = c.requires in
-    let many : suc c.args.last - c.args.first ≡ suc (c.args.last - c.args.first) = omega (arith, range) in
-    subst (λ (n : ℕ). IsTrue c.may_besides.result ↔ May (confirmed_from c.args.first n h) c.args.device c.args.frame c.args.kind) many (c.may_besides.ensures.may h past)
+pub returns-in_default-clause-may : goal.returns-in_default-clause-may
+returns-in_default-clause-may c = λ h past. (
+  λ none. absurd (false≢true none),
+  λ may. absurd (none_may c.args.self.now h past c.args.first c.args.last c.requires c.args.device c.args.frame c.args.kind (sym c.get_index_of.ensures.index ∙ c.in_default.is) may),
+)
+
+pub overflow_cast-wanted : goal.overflow_cast-wanted
+overflow_cast-wanted c = let within = c.in-Some.ensures.within in let few = c.args.self.now.few in omega (arith, within, few)
+
+pub returns-then-is_held_near-clause-may : goal.returns-then-is_held_near-clause-may
+returns-then-is_held_near-clause-may c = λ h past.
+    let named = named_where_found c.args.self.now.names.keys c.args.frame c.in-Some.place (sym c.get_index_of.ensures.index ∙ c.in-Some.is) in
+    let wanted : Wanted = record { device = c.args.device; place = c.in-Some.place; kind = c.args.kind; first = c.args.first; last = c.args.last; held = true } in
+    (λ held. may_from_reached c.args.self.now h past c.args.first c.args.last c.requires wanted c.args.frame refl refl named refl (c.is_held_near.ensures held), λ may. c.if-is_held_near.true)
+
+pub returns-else-is_held_near-clause-may : goal.returns-else-is_held_near-clause-may
+returns-else-is_held_near-clause-may c = λ h past.
+    let named = named_where_found c.args.self.now.names.keys c.args.frame c.in-Some.place (sym c.get_index_of.ensures.index ∙ c.in-Some.is) in
+    let wanted : Wanted = record { device = c.args.device; place = c.in-Some.place; kind = c.args.kind; first = c.args.first; last = c.args.last; held = true } in (
+      λ some. may_from_reached c.args.self.now h past c.args.first c.args.last c.requires wanted c.args.frame refl refl named refl (c.is_anywhere.ensures.0 some),
+      λ may. c.is_anywhere.ensures.1 (reached_from_may c.args.self.now h past c.args.first c.args.last c.requires wanted c.args.frame refl refl named refl may),
+    )
+
+pub returns-then-is_held_near-clause-low : goal.returns-then-is_held_near-clause-low
+returns-then-is_held_near-clause-low c = λ yes.
+    low_where_named c.args.self.now.names.keys c.in-Some.place c.args.frame c.args.self.now.low
+    (named_where_found c.args.self.now.names.keys c.args.frame c.in-Some.place (sym c.get_index_of.ensures.index ∙ c.in-Some.is))
+
+pub returns-else-is_held_near-clause-low : goal.returns-else-is_held_near-clause-low
+returns-else-is_held_near-clause-low c = λ yes.
+    low_where_named c.args.self.now.names.keys c.in-Some.place c.args.frame c.args.self.now.low
+    (named_where_found c.args.self.now.names.keys c.args.frame c.in-Some.place (sym c.get_index_of.ensures.index ∙ c.in-Some.is))
