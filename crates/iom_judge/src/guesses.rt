@@ -1,9 +1,6 @@
 // What was guessed of what lines don't show, and which line depends on it.
-ghost use Rattle.std.specs.Prelude.{◌≤◌};
-
 use crate::choosing::{Reported, Tables};
 use crate::missing::Missing;
-use crate::settled::device_with;
 use iom_base::{DeviceId, PAGE_SIZE, Refusal};
 use iom_kept_state::KeptState;
 use iom_machine::{Device, Event, Outcome};
@@ -55,16 +52,10 @@ impl Guesses {
 
     /// Notes what a line shows, and that the access is made of which something was guessed at this place.
     pub(crate) fn note_line(&mut self, reply: &Reported<'_>, made: Option<usize>) {
-        if matches!(
-            reply.shown.tables,
-            Tables::Own(Some(_)) | Tables::OfAnother(Some(_))
-        ) {
+        if let Tables::Own(Some(_)) | Tables::OfAnother(Some(_)) = reply.shown.tables {
             self.shows_tables = true;
         }
-        if matches!(
-            (reply.event, reply.outcome),
-            (Event::Detach { .. }, Outcome::Ticket(_))
-        ) {
+        if let (Event::Detach { .. }, Outcome::Ticket(_)) = (reply.event, reply.outcome) {
             self.gives_back = self.tables.is_some();
         }
         if let Some(place) = made {
@@ -100,7 +91,7 @@ impl Guesses {
         if self.in_flight.is_empty() {
             return None;
         }
-        let device = device_with(kept.devices.as_slice(), *id)?;
+        let device = kept.device(*id)?;
         self.place_of(*id, oldest_number(device))
     }
 
@@ -123,10 +114,10 @@ impl Guesses {
         }
     }
 
-    /// What bytes in memory depend on.
-    fn of_bytes(&self) -> Option<Missing> {
+    /// What bytes in memory depend on, which may be those of a table or not.
+    fn of_bytes(&self, may_be_table: bool) -> Option<Missing> {
         match self.made {
-            None if self.gives_back => self.tables,
+            None if self.gives_back || may_be_table => self.tables,
             made => made,
         }
     }
@@ -141,51 +132,24 @@ impl Guesses {
         }
     }
 
-    /// What the bytes of a frame depend on: one that no device may reach may be a table.
-    fn of_peek(&self, kept: &KeptState, frame: u64) -> Option<Missing> {
-        match self.of_bytes() {
-            None if kept.grants.is_out_of_reach(frame) => self.tables,
-            found => found,
-        }
-    }
-
-    /// What was guessed of the first access that couldn't stay once the tickets from this one to the last are confirmed: of another
-    /// device as found before, or else of this one. None, where one couldn't stay that wasn't guessed.
-    fn guess_to_stay(
-        &self,
-        kept: &KeptState,
-        device: &Device,
-        tickets: (u32, u32),
-        before: Option<Missing>,
-    ) -> Option<Option<Missing>>
-        requires { tickets.0 ≤ tickets.1 }
-    {
-        let (from, last) = tickets;
-        let first = oldest_number(device);
-        let mut found = before;
-        for (index, flight) in device.in_flight.as_slice().iter().enumerate() {
-            let page = flight.access.address / PAGE_SIZE;
-            let kind = flight.access.kind;
-            let grants = &kept.grants;
-            if !grants.may_once(device.id, page, flight.frame, kind, from, last) {
-                let place = self.place_of(device.id, first.saturating_add(index as u64));
-                let guessed = self.guess_at(place)?;
-                if found.is_none() {
-                    found = Some(guessed);
-                }
-            }
-        }
-        Some(found)
-    }
-
-    /// What the refusal of a poll depends on: the guesses of accesses that couldn't stay, where there is none that wasn't guessed.
+    /// What the refusal of a poll depends on: the first guess of an access that couldn't stay once the tickets from the first to the last
+    /// are confirmed. None, where one couldn't stay that wasn't guessed.
     fn of_poll(&self, kept: &KeptState, first: u32, last: u32) -> Option<Missing> {
         if !may_confirm(kept, first, last) {
             return None;
         }
         let mut found = None;
         for device in kept.devices.as_slice() {
-            found = self.guess_to_stay(kept, device, (first, last), found)?;
+            let oldest = oldest_number(device);
+            for (index, flight) in device.in_flight.as_slice().iter().enumerate() {
+                let (id, page) = (device.id, flight.access.address / PAGE_SIZE);
+                let (grants, kind) = (&kept.grants, flight.access.kind);
+                if !grants.may_once(id, page, flight.frame, kind, first, last) {
+                    let place = self.place_of(id, oldest.saturating_add(index as u64));
+                    let guessed = self.guess_at(place)?;
+                    found = found.or(Some(guessed));
+                }
+            }
         }
         found
     }
@@ -195,7 +159,7 @@ impl Guesses {
         match (reply.event, reply.outcome) {
             (Event::Commit { .. }, outcome) => {
                 match self.guess_at(self.place_of_oldest(kept, reply.event)) {
-                    None if matches!(outcome, Outcome::Read(_)) => self.of_bytes(),
+                    None if matches!(outcome, Outcome::Read(_)) => self.of_bytes(false),
                     found => found,
                 }
             }
@@ -218,8 +182,9 @@ impl Guesses {
                 Event::Free { .. } | Event::Poke { .. },
                 Outcome::Free(false) | Outcome::Refused(Refusal::FrameReserved),
             ) => self.tables,
+            // the bytes of a frame that no device may reach may be those of a table
             (Event::Peek { address, .. }, Outcome::Bytes(_)) => {
-                self.of_peek(kept, *address / PAGE_SIZE)
+                self.of_bytes(kept.grants.is_out_of_reach(*address / PAGE_SIZE))
             }
             _ => None,
         }

@@ -1,8 +1,8 @@
 // Frames that were given to somebody else, and aren't taken back.
 ghost use Rattle.std.specs.Prelude.{◌≡◌, ◌&&◌, ◌||◌, [], ℕ, not, false, true, nat_eq, IsNone, IsTrue, OnOk};
 ghost use Rattle.iom_judge.specs.Certified.{is_given, ContinuesAs};
-ghost use Rattle.iom_judge.specs.Happenings.{frame_granted, is_in, is_used, tables_chosen};
-ghost use Rattle.iom_trace_lines.specs.TraceLines.{takes_frames, Handoff, Take};
+ghost use Rattle.iom_judge.specs.Happenings.{is_in, is_used};
+ghost use Rattle.iom_trace_lines.specs.TraceLines.{Handoff, Take};
 
 use crate::choosing::Reported;
 use crate::machine::TraceMachine;
@@ -10,6 +10,7 @@ use crate::stop::{Judged, Line};
 use indexmap::IndexMap;
 use iom_machine::{Choice, Event, Outcome};
 use std::alloc::{AllocError, Global};
+use std::slice::from_ref;
 
 /// Frames that were given to somebody else, with the lines that did it.
 #[derive(Drop)]
@@ -19,23 +20,12 @@ pub(crate) struct Handed {
     pub(crate) takes_back: bool,
 }
 
-/// The frame that is granted, if one is.
-fn granted(event: &Event, outcome: &Outcome) -> Option<u64>
-    ensures { result ≡ frame_granted event.now outcome.now }
+/// The frames that are used where this came of the event: the one that is granted, tables, and pages of the device directory.
+fn used<'a>(event: &'a Event, outcome: &Outcome, choice: &'a Choice) -> (&'a [u64], &'a [u64])
+    ensures { (frame : ℕ) → is_used event.now outcome.now choice.now frame ≡ (is_in frame result.0.now || is_in frame result.1.now) }
 {
     match (event, outcome) {
-        (Event::Grant { frame, .. }, Outcome::Done) => Some(*frame),
-        _ => None,
-    }
-}
-
-/// The frames that became tables of the device, and those that became pages of the device directory.
-fn tables<'a>(event: &Event, outcome: &Outcome, choice: &'a Choice) -> (&'a [u64], &'a [u64])
-    ensures { (frame : ℕ)
-        → (takes_frames event.now outcome.now && is_in frame (tables_chosen event.now choice.now)) ≡ (is_in frame result.0.now || is_in frame result.1.now) }
-{
-    match (event, outcome) {
-        (Event::Grant { .. }, Outcome::Done) => (choice.taken.as_slice(), &[]),
+        (Event::Grant { frame, .. }, Outcome::Done) => (from_ref(frame), choice.taken.as_slice()),
         (Event::Attach { .. }, Outcome::Done) => {
             (choice.taken.as_slice(), choice.directory.as_slice())
         }
@@ -94,14 +84,9 @@ impl Handed {
         ensures { IsNone result → (frame : ℕ)
             → IsTrue (is_used reply.now.event.now reply.now.outcome.now choice.now frame) → is_given self.now frame ≡ false }
     {
-        if let Some(frame) = granted(reply.event, reply.outcome) {
-            if self.frames.contains_key(&frame) {
-                return Some(frame);
-            }
-        }
-        let (taken, directory) = tables(reply.event, reply.outcome, choice);
-        match self.first_of(taken) {
-            None => self.first_of(directory),
+        let (ones, others) = used(reply.event, reply.outcome, choice);
+        match self.first_of(ones) {
+            None => self.first_of(others),
             found => found,
         }
     }
@@ -129,12 +114,9 @@ impl Handed {
         if self.frames.is_empty() {
             return;
         }
-        if let Some(frame) = granted(reply.event, reply.outcome) {
-            let _line = self.frames.swap_remove(&frame);
-        }
-        let (taken, directory) = tables(reply.event, reply.outcome, choice);
-        self.forget(taken);
-        self.forget(directory);
+        let (ones, others) = used(reply.event, reply.outcome, choice);
+        self.forget(ones);
+        self.forget(others);
     }
 
     /// The line is unlawful where this uses a frame that was given away.

@@ -5,7 +5,6 @@ ghost use Rattle.iom_judge.specs.Certified.{ContinuesAs};
 ghost use Rattle.iom_judge.specs.Happenings.{MayBeTold};
 
 use crate::machine::TraceMachine;
-use crate::settled::device_with;
 use crate::stop::{Judged, Line};
 use arrayvec::ArrayVec;
 use iom_base::{AcceptedAccess, AccessKind, DeviceId, PAGE_SIZE};
@@ -14,7 +13,7 @@ use iom_machine::{Event, Outcome};
 
 /// The oldest access of the device in flight, if there is one.
 fn oldest(kept: &KeptState, id: DeviceId) -> Option<&AcceptedAccess> {
-    let device = device_with(kept.devices.as_slice(), id)?;
+    let device = kept.device(id)?;
     device.in_flight.as_slice().first()
 }
 

@@ -1,7 +1,6 @@
 // On which frame an access is, so far as the grants say.
 use iom_base::{AccessKind, DeviceId, Mode, PAGE_SIZE, Rights};
 use iom_kept_state::KeptState;
-use iom_machine::Device;
 
 /// A frame on which an access may be, and whether it may be on no other.
 #[derive(Clone, Copy)]
@@ -17,11 +16,6 @@ pub(crate) struct Reachable {
     pub(crate) frame: u64,
     pub(crate) rights: Rights,
     is_held: bool,
-}
-
-/// The plugged device with this id.
-pub(crate) fn device_with(devices: &[Device], id: DeviceId) -> Option<&Device> {
-    devices.iter().find(|device| device.id == id)
 }
 
 /// What the device has at the page.

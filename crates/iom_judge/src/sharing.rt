@@ -19,6 +19,7 @@ use crate::missing::Missing;
 use crate::stop::{Judged, Line, Stop};
 use crate::verdict::Finding;
 use iom_base::{DeviceId, GrantRights, Mode, Rights};
+use iom_kept_state::is_attached;
 use iom_machine::{Attachment, Event, Outcome};
 
 /// The right to grant that is these rights.
@@ -35,13 +36,6 @@ fn have_one_mode(one: Attachment, other: Attachment) -> bool
     ensures { IsTrue result → mode_at one ≡ mode_at other }
 {
     one.mode() == other.mode()
-}
-
-/// Whether a device that is so attached is attached.
-fn is_attached(attachment: Attachment) -> bool
-    ensures { result ≡ is_attached attachment }
-{
-    matches!(attachment, Attachment::Attached { .. })
 }
 
 impl TraceMachine {

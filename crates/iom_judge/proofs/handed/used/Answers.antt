@@ -1,5 +1,5 @@
 use Rattle.iom_judge.proofs.HandedLemmas.{is_in_both}
-use Rattle.iom_judge.proofs.handed.tables.Goals as goal
+use Rattle.iom_judge.proofs.handed.used.Goals as goal
 
 pub returns-in-Attach-Done : goal.returns-in-Attach-Done
 returns-in-Attach-Done c frame =
