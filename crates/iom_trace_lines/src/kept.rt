@@ -1,10 +1,10 @@
 // Outcomes that lines tell.
-ghost use Rattle.std.specs.Prelude.{◌≡◌, ◌*◌, ◌/◌, ◌++◌, ◌∷◌, [], codes, length, IfSome, IsTrue};
+ghost use Rattle.std.specs.Prelude.{◌≡◌, ◌*◌, ◌/◌, ◌++◌, ◌∷◌, [], codes, flat_map, length, IfSome, IsTrue};
 ghost use Rattle.std.specs.Fmt.{decimal};
 ghost use Rattle.iom_base.specs.Causes.{code_of};
 ghost use Rattle.iom_script.specs.Digits.{hex_of};
 ghost use Rattle.iom_script.specs.Cuts.{SaysFirst};
-ghost use Rattle.iom_script.specs.Lines.{fetched_text, line_of, timeout_text};
+ghost use Rattle.iom_script.specs.Lines.{fetched_text, line_of, timeout_text, word_text};
 
 use crate::words::{behind, long_number_of, short_number_before, short_number_of};
 use arrayvec::ArrayVec;
@@ -75,6 +75,7 @@ pub struct KeptOutcomes {
     sent: Outcome,
     kept: Outcome,
     no_message: Outcome,
+    record: Outcome,
     stepped: Outcome,
     /// Those that come less often, each beside how its words begin.
     seldom: Vec<(&'static [u8], Outcome)>,
@@ -151,24 +152,32 @@ fn cause_of(text: &[u8]) -> Option<Cause>
     None
 }
 
-/// The word of a record that `0x` and sixteen digits say.
-fn record_word_of(text: &[u8]) -> Option<u64> {
-    let digits = after(text, b"0x")?;
-    if digits.len() != 16 {
+/// The word of a record with which the text begins, and what stands behind it.
+fn record_word_before(text: &[u8]) -> Option<(u64, &[u8])>
+    ensures { IfSome result (λ read. text.now ≡ word_text read.0 ++ read.1.now) }
+{
+    let digits = behind(text, b" 0x")?;
+    if digits.len() < 16 {
         return None;
     }
-    Some(u64::from_be_bytes(eight_bytes(digits)?))
+    let (word, rest) = digits.split_at(16);
+    let bytes = eight_bytes(word)?;
+    Some((u64::from_be_bytes(bytes), rest))
 }
 
-/// The record whose four words stand in these places.
-fn record_of(text: &[u8]) -> Option<FaultRecord> {
+/// The record that four words say.
+fn record_of(text: &[u8]) -> Option<FaultRecord>
+    ensures { IfSome result (λ taken. text.now ≡ flat_map word_text taken.words) }
+{
+    let (first, rest) = record_word_before(text)?;
+    let (second, rest) = record_word_before(rest)?;
+    let (third, rest) = record_word_before(rest)?;
+    let (fourth, rest) = record_word_before(rest)?;
+    if !rest.is_empty() {
+        return None;
+    }
     Some(FaultRecord {
-        words: [
-            record_word_of(text.get(..18)?)?,
-            record_word_of(text.get(19..37)?)?,
-            record_word_of(text.get(38..56)?)?,
-            record_word_of(text.get(57..)?)?,
-        ],
+        words: [first, second, third, fourth],
     })
 }
 
@@ -283,7 +292,6 @@ fn step_of(text: &[u8]) -> Option<BlockStep> {
 /// The places of outcomes that come less often, each beside how its words begin.
 fn seldom_places(alloc: Global) -> Result<Vec<(&'static [u8], Outcome)>, AllocError> {
     let mut places: Vec<(&'static [u8], Outcome)> = Vec::with_capacity(alloc, 32)?;
-    places.push((b"record ", Outcome::Record(FaultRecord { words: [0; 4] })))?;
     places.push((b"miss", Outcome::Miss))?;
     let no_translation = Translation::Refused(Cause::ReadPageFault);
     places.push((b"answer ", Outcome::Answered(no_translation)))?;
@@ -311,7 +319,6 @@ fn seldom_places(alloc: Global) -> Result<Vec<(&'static [u8], Outcome)>, AllocEr
 /// Tells the place what stands behind the start of its words. None where that doesn't say it.
 fn tell_place(place: &mut Outcome, rest: &[u8]) -> Option<()> {
     match place {
-        Outcome::Record(record) => *record = record_of(rest)?,
         Outcome::Answered(reply) => *reply = translation_of(rest)?,
         Outcome::Invalidated(serial) | Outcome::Closed(serial) | Outcome::NotClosed(serial) =>
             *serial = number_of(rest)?,
@@ -345,6 +352,7 @@ impl KeptOutcomes {
             sent: Outcome::Sent,
             kept: Outcome::Kept,
             no_message: Outcome::NoMessage,
+            record: Outcome::Record(FaultRecord { words: [0; 4] }),
             stepped: Outcome::Stepped(BlockStep::Idle),
             seldom: seldom_places(alloc)?,
             printed: LineBuffer::new(alloc)?,
@@ -424,6 +432,9 @@ impl KeptOutcomes {
         );
         if let Some(what) = fetched_of(event, text) {
             return tell!(self.fetched, Outcome::Fetched(fetched) => *fetched = what);
+        }
+        if let Some(words) = behind(text, b"record") {
+            return tell!(self.record, Outcome::Record(taken) => *taken = record_of(words)?);
         }
         self.told_seldom(event, text)
     }

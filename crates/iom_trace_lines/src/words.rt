@@ -30,7 +30,10 @@ pub(crate) fn cut<'a>(
 pub(crate) fn behind<'a>(text: &'a [u8], start: &[u8]) -> Option<&'a [u8]>
     ensures { IfSome result (λ rest. text.now ≡ start.now ++ rest.now) }
 {
-    let (first, others) = start.split_at(start.len().min(8));
+    if start.len() <= 8 {
+        return after(text, start);
+    }
+    let (first, others) = start.split_at(8);
     after(after(text, first)?, others)
 }
 
