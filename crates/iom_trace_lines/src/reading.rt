@@ -13,9 +13,6 @@ use std::io::{self, ErrorKind, Read};
 /// The bytes that a line has at most, with its line feed.
 pub(crate) const LONGEST_LINE: usize = 65536;
 
-/// Room for such a line, and for what is read behind it.
-const BUFFER_SIZE: usize = 2 * LONGEST_LINE;
-
 /// What was read of a reader, and isn't taken yet.
 #[derive(Drop)]
 pub struct Lines {
@@ -59,7 +56,7 @@ impl Lines {
         ensures { IfOk result (λ lines. BufferHolds lines.buffer.items lines.start lines.end []) }
     {
         Ok(Lines {
-            buffer: vec![in alloc; 0u8; BUFFER_SIZE]?,
+            buffer: vec![in alloc; 0u8; LONGEST_LINE]?,
             start: 0,
             end: 0,
         })
