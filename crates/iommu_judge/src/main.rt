@@ -37,6 +37,8 @@ const MOST_LEFT_OUT: usize = 1000;
 
 const USAGE: &str = "iommu-judge [--help | --version | [--keep-going] [FILE]]";
 
+const NOT_USAGE: &str = "it isn't [--help | --version | [--keep-going] [FILE]]";
+
 const HELP: &str = "\
 iommu-judge [--help | --version | [--keep-going] [FILE]]
 
@@ -56,27 +58,21 @@ fn complain(rt: &HostRuntime, name: &str, text: &str, status: u8) -> u8 {
     status
 }
 
-/// The exit status of what is found.
-fn status_of(verdict: &Verdict) -> u8 {
-    match verdict {
+/// Prints what is found, and gives the exit status. A line that isn't in the grammar is told on standard error.
+fn tell(rt: &HostRuntime, name: &str, verdict: &Verdict) -> io::Result<u8> {
+    let status = match verdict {
         Verdict::Lawful => LAWFUL,
         Verdict::Stops { finding, .. } => match finding {
             Finding::Uncertified(_) => NOT_CERTIFIED,
             Finding::Beyond(_) => BEYOND_LIMITS,
             Finding::Unlawful(_) => NOT_LAWFUL,
-            Finding::Bad(_) => NOT_IN_GRAMMAR,
+            Finding::Bad(_) => {
+                eprintln!(rt; "iommu-judge: {name}: {verdict}")?;
+                return Ok(NOT_IN_GRAMMAR);
+            }
         },
-    }
-}
-
-/// Prints what is found, and gives the exit status. A line that isn't in the grammar is told on standard error.
-fn tell(rt: &HostRuntime, name: &str, verdict: &Verdict) -> io::Result<u8> {
-    let status = status_of(verdict);
-    if status == NOT_IN_GRAMMAR {
-        eprintln!(rt; "iommu-judge: {name}: {verdict}")?;
-    } else {
-        println!(rt; "{verdict}")?;
-    }
+    };
+    println!(rt; "{verdict}")?;
     Ok(status)
 }
 
@@ -99,70 +95,46 @@ fn tell_all(rt: &HostRuntime, name: &str, found: &Findings) -> io::Result<u8> {
     Ok(status)
 }
 
-/// Tells what was found of what has this name, or why it can't be read.
-fn end(rt: &HostRuntime, name: &str, found: io::Result<Findings>) -> u8 {
-    match found {
-        Err(error) => complain(rt, name, cause_of(&error), FAILED),
-        Ok(found) => match tell_all(rt, name, &found) {
-            Ok(status) => status,
-            Err(_) => complain(rt, "standard output", "writing failed", FAILED),
-        },
-    }
-}
-
-/// What is found of what the reader has, where so many unlawful lines are left out at most.
+/// Judges what the opened reader has, where so many unlawful lines are left out at most, and tells what is found of what has this
+/// name, or why it can't be read. It fails where standard output can't be written.
 fn judge<R: Read + Drop>(
     rt: &HostRuntime,
     name: &str,
-    reader: R,
+    opened: io::Result<R>,
     most: usize,
-) -> io::Result<Findings> {
-    let mut watched = Watched::new(rt, name, reader);
-    judge_on(rt.alloc(), &mut watched, most)
+) -> io::Result<u8> {
+    let found = match opened {
+        Ok(reader) => judge_on(rt.alloc(), &mut Watched::new(rt, name, reader), most),
+        Err(error) => Err(error),
+    };
+    match found {
+        Ok(found) => tell_all(rt, name, &found),
+        Err(error) => Ok(complain(rt, name, cause_of(&error), FAILED)),
+    }
 }
 
 /// Writes the text, and gives the exit status.
-fn print(rt: &HostRuntime, text: &str) -> u8 {
-    match rt.stdout().write_all(text.as_bytes()) {
-        Ok(()) => LAWFUL,
-        Err(_) => complain(rt, "standard output", "writing failed", FAILED),
-    }
+fn print(rt: &HostRuntime, text: &str) -> io::Result<u8> {
+    rt.stdout().write_all(text.as_bytes())?;
+    Ok(LAWFUL)
 }
 
-/// Judges the trace on standard input. Where that is a terminal, nobody wrote one there: what is wanted is said.
-fn judge_input(rt: &HostRuntime, most: usize) -> u8 {
-    if rt.stdin().is_terminal() {
-        let _ = eprintln!(rt; "{USAGE}");
-        return BAD_COMMAND_LINE;
-    }
-    end(rt, INPUT, judge(rt, INPUT, rt.stdin(), most))
-}
-
-/// Judges the trace in the file.
-fn judge_file(rt: &HostRuntime, file: &str, most: usize) -> u8 {
-    let found = match fs::open(rt, file) {
-        Ok(opened) => judge(rt, file, opened, most),
-        Err(error) => Err(error),
-    };
-    end(rt, file, found)
-}
-
-/// Judges the trace that the words name, or the one on standard input.
-fn judge_named(rt: &HostRuntime, words: &[String], most: usize) -> u8 {
+/// Judges the trace in the file that the words name, or the one on standard input. Where that is a terminal, nobody wrote one there:
+/// what is wanted is said.
+fn judge_named(rt: &HostRuntime, words: &[String], most: usize) -> io::Result<u8> {
     match words {
-        [] => judge_input(rt, most),
-        [file] if is_file(file) => judge_file(rt, file, most),
-        _ => complain(
-            rt,
-            "command line",
-            "it isn't [--help | --version | [--keep-going] [FILE]]",
-            BAD_COMMAND_LINE,
-        ),
+        [] if rt.stdin().is_terminal() => {
+            let _ = eprintln!(rt; "{USAGE}");
+            Ok(BAD_COMMAND_LINE)
+        }
+        [] => judge(rt, INPUT, Ok(rt.stdin()), most),
+        [file] if is_file(file) => judge(rt, file, fs::open(rt, file), most),
+        _ => Ok(complain(rt, "command line", NOT_USAGE, BAD_COMMAND_LINE)),
     }
 }
 
-/// Does what the words ask for, and gives the exit status.
-fn run(rt: &HostRuntime, words: &[String]) -> u8 {
+/// Does what the words ask for, and gives the exit status. It fails where standard output can't be written.
+fn run(rt: &HostRuntime, words: &[String]) -> io::Result<u8> {
     match words {
         [word] if word.as_str() == "--help" => print(rt, HELP),
         [word] if word.as_str() == "--version" => print(rt, VERSION),
@@ -175,7 +147,10 @@ fn run(rt: &HostRuntime, words: &[String]) -> u8 {
 
 fn main(rt: HostRuntime) -> ExitCode {
     let status = match words_of(&rt) {
-        Ok(words) => run(&rt, &words),
+        Ok(words) => match run(&rt, &words) {
+            Ok(status) => status,
+            Err(_) => complain(&rt, "standard output", "writing failed", FAILED),
+        },
         Err(error) => match why_no_words(&error) {
             None => complain(&rt, "command line", "it isn't text", BAD_COMMAND_LINE),
             Some(why) => complain(&rt, "command line", why, FAILED),
