@@ -4,67 +4,32 @@ use crate::facts::Facts;
 use crate::notes::Sent;
 use crate::pages::{Meant, say_bad_span, say_stale};
 use crate::words::{Said, Words};
-use iom_base::{Access, AccessKind, DeviceId, PAGE_SIZE, Refusal, Rights, Sequence};
+use iom_base::{Access, AccessKind, DeviceId, PAGE_SIZE, Refusal, Rights};
 use iom_fabric::Translation;
 use iom_machine::{Device, Event, Outcome};
+use iom_machine_judge::accesses::access_of;
+use iom_machine_judge::acts::is_able;
 use iom_machine_judge::{questions, requests, through_cache, translated};
 use iom_trace_lines::CAUSES;
-use std::alloc::Global;
 
-/// By which route a request goes to memory.
-#[derive(Clone, Copy)]
-pub(crate) enum Route {
-    /// The IOMMU translates its address.
-    Untranslated,
-    /// It says that it is translated already.
-    Forged,
-    /// Through the device's own cache of translations.
-    Cached,
-}
-
-impl Route {
-    /// The route of the event's request to memory, and whose it is, if it is one.
-    pub(crate) fn of(event: &Event) -> Option<(Route, DeviceId)> {
-        match event {
-            Event::Read { device, .. } | Event::Write { device, .. } => {
-                Some((Route::Untranslated, *device))
-            }
-            Event::ReadTranslated { device, .. } | Event::WriteTranslated { device, .. } => {
-                Some((Route::Forged, *device))
-            }
-            Event::ReadThroughCache { device, .. } | Event::WriteThroughCache { device, .. } => {
-                Some((Route::Cached, *device))
-            }
-            _ => None,
-        }
+/// The device whose access to memory the event may begin, if it may.
+pub(crate) fn requester(event: &Event) -> Option<DeviceId> {
+    match event {
+        Event::Read { device, .. }
+        | Event::Write { device, .. }
+        | Event::ReadTranslated { device, .. }
+        | Event::WriteTranslated { device, .. }
+        | Event::ReadThroughCache { device, .. }
+        | Event::WriteThroughCache { device, .. }
+        | Event::Step { device } => Some(*device),
+        _ => None,
     }
-}
-
-/// The access that the event asks for, if it does. What it would write is left out, since no answer depends on it.
-fn access_of(alloc: Global, event: &Event) -> Option<Access> {
-    let (kind, address, len) = match event {
-        Event::Read { address, len, .. }
-        | Event::ReadTranslated { address, len, .. }
-        | Event::ReadThroughCache { address, len, .. } => (AccessKind::Read, *address, *len),
-        Event::Write { address, bytes, .. }
-        | Event::WriteTranslated { address, bytes, .. }
-        | Event::WriteThroughCache { address, bytes, .. } => {
-            (AccessKind::Write, *address, bytes.as_slice().len() as u64)
-        }
-        _ => return None,
-    };
-    Some(Access {
-        address,
-        len,
-        kind,
-        bytes: Sequence::new(alloc),
-    })
 }
 
 /// A device's request to memory.
 #[derive(Clone, Copy)]
 struct Request<'a> {
-    route: Route,
+    event: &'a Event,
     device: &'a Device,
     access: &'a Access,
 }
@@ -73,33 +38,35 @@ impl Facts<'_> {
     /// Whether the request may be answered so, on the frame.
     fn may(&self, request: Request<'_>, frame: u64, outcome: &Outcome) -> bool {
         let (kept, device, access) = (self.kept, request.device, request.access);
-        match request.route {
-            Route::Untranslated => requests::may_answer(kept, device, access, frame, outcome),
-            Route::Forged => translated::may_answer(kept, device, access, outcome),
-            Route::Cached => through_cache::may_answer(kept, device, access, frame, outcome),
+        match request.event {
+            Event::ReadTranslated { .. } | Event::WriteTranslated { .. } => {
+                translated::may_answer(kept, device, access, outcome)
+            }
+            Event::ReadThroughCache { .. } | Event::WriteThroughCache { .. } => {
+                through_cache::may_answer(kept, device, access, frame, outcome)
+            }
+            _ => requests::may_answer(kept, device, access, frame, outcome),
         }
     }
 
-    /// Says what is known of an access that the event asks for, and what could have come of it.
-    pub(crate) fn say_access(&self, words: &mut Words, event: &Event, outcome: &Outcome) -> Said {
-        let (Some((route, id)), Some(access)) = (Route::of(event), access_of(words.alloc, event))
-        else {
-            return Ok(());
-        };
-        let Some(device) = self.device(id) else {
+    /// Says what is known of an access that the event asks of the device, and what could have come of it.
+    pub(crate) fn say_access(
+        &self,
+        words: &mut Words,
+        id: DeviceId,
+        event: &Event,
+        outcome: &Outcome,
+    ) -> Said {
+        let Some(device) = self.kept.device(id) else {
             return say_absent(words, id);
         };
-        let sends = match route {
-            Route::Untranslated => device.kind.sends_untranslated(),
-            Route::Forged => device.kind.forges(),
-            Route::Cached => device.kind.sends_through_cache(),
-        };
-        if !sends {
+        if !is_able(event, device.kind) {
             words.say("a device of its kind doesn't do that")?;
             return words.could(Refusal::WrongKind);
         }
+        let access = access_of(words.alloc, event)?;
         let request = Request {
-            route,
+            event,
             device,
             access: &access,
         };
@@ -118,7 +85,10 @@ impl Facts<'_> {
     fn could_come(&self, words: &mut Words, request: Request<'_>, outcome: &Outcome) -> Said {
         let Request { device, access, .. } = request;
         let meant = Meant::by(device, access.address / PAGE_SIZE, access.kind);
-        if !matches!(request.route, Route::Forged) {
+        if !matches!(
+            request.event,
+            Event::ReadTranslated { .. } | Event::WriteTranslated { .. }
+        ) {
             self.say_meant(words, meant)?;
             self.say_shown(words, meant)?;
         }
@@ -176,7 +146,7 @@ impl Facts<'_> {
         let Some(page) = page else {
             return words.say(format_args!("a step of {id:06x} asked, of a page that isn't shown"));
         };
-        let Some(device) = self.device(id) else {
+        let Some(device) = self.kept.device(id) else {
             return say_absent(words, id);
         };
         let meant = Meant::by(device, page, AccessKind::Read);

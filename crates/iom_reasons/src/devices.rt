@@ -1,6 +1,5 @@
 // What is said of a device, of its accesses in flight, which polls and commits touch, and of a step that it takes.
 use crate::facts::Facts;
-use crate::pages::Sought;
 use crate::past::Release;
 use crate::words::{InLine, MOST_SAID, Said, Under, Words, name_of};
 use iom_base::{AcceptedAccess, AccessKind, DeviceId, PAGE_SIZE, Refusal};
@@ -48,7 +47,7 @@ impl Facts<'_> {
 
     /// Says what is known of a block device that takes a step, and which of its answers may always come.
     pub(crate) fn say_step(&self, words: &mut Words, id: DeviceId, outcome: &Outcome) -> Said {
-        let Some(device) = self.device(id) else {
+        let Some(device) = self.kept.device(id) else {
             return say_absent(words, id);
         };
         if !device.kind.is_block_device() {
@@ -64,7 +63,7 @@ impl Facts<'_> {
 
     /// Says what the device has in flight, and what a commit could have given.
     pub(crate) fn say_commit(&self, words: &mut Words, id: DeviceId) -> Said {
-        let Some(device) = self.device(id) else {
+        let Some(device) = self.kept.device(id) else {
             return say_absent(words, id);
         };
         let Some(oldest) = device.in_flight.as_slice().first() else {
@@ -129,7 +128,7 @@ impl Facts<'_> {
     /// Says under which of these tickets the device released the frame last, and at which page, if it did.
     fn say_release(&self, words: &mut Words, id: DeviceId, frame: u64, tickets: &Tickets) -> Said {
         let mut places = Vec::new(words.alloc);
-        self.add_places(&mut places, id, Sought::Frame(frame))?;
+        self.add_places(&mut places, id, |reached: u64, _rights| reached == frame)?;
         let mut found: Option<(u64, Release)> = None;
         for place in places.iter() {
             let pending = self.pending_of(*place);

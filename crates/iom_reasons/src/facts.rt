@@ -1,7 +1,7 @@
 // Why a line isn't lawful: what the words are about, by the event, and what is said of the driver's calls.
 ghost use Rattle.std.specs.Prelude.{IfOk, Contains, string_bytes};
 
-use crate::accesses::Route;
+use crate::accesses::requester;
 use crate::devices::say_absent;
 use crate::notes::Notes;
 use crate::past::Place;
@@ -25,12 +25,6 @@ pub struct Facts<'a> {
 }
 
 impl Facts<'_> {
-    /// The plugged device with this id.
-    pub(crate) fn device(&self, id: DeviceId) -> Option<&Device> {
-        let devices = self.kept.devices.as_slice();
-        devices.iter().find(|device| device.id == id)
-    }
-
     /// Says what a call could have been answered that takes frames, and that nothing forbids: the frames are the cause, where
     /// it is done, since whatever else it shows is in order.
     fn could_take(&self, words: &mut Words, event: &Event, outcome: &Outcome) -> Said {
@@ -115,10 +109,10 @@ impl Facts<'_> {
             (None, _) => self.could_ticket(words),
         }
     }
+
     /// Says what is known of what the line is about, and what could have come.
     fn say(&self, words: &mut Words, event: &Event, outcome: &Outcome) -> Said {
         match event {
-            event if Route::of(event).is_some() => self.say_access(words, event, outcome),
             Event::Commit { device } => self.say_commit(words, *device),
             Event::Step { device } => self.say_step(words, *device, outcome),
             Event::Ask { device, .. }
@@ -126,7 +120,7 @@ impl Facts<'_> {
             | Event::Reset { device }
             | Event::Medium { device, .. }
             | Event::Queue { device, .. }
-            | Event::Status { device } => match self.device(*device) {
+            | Event::Status { device } => match self.kept.device(*device) {
                 None => say_absent(words, *device),
                 Some(device) => self.say_attachment(words, device),
             },
@@ -143,7 +137,10 @@ impl Facts<'_> {
                 self.say_bytes(words, AccessKind::Read, *address, *len)
             }
             Event::Free { frame } => self.say_free(words, *frame),
-            event => self.say_call(words, event, outcome),
+            event => match requester(event) {
+                Some(device) => self.say_access(words, device, event, outcome),
+                None => self.say_call(words, event, outcome),
+            },
         }
     }
 

@@ -5,14 +5,7 @@ use crate::words::{Hex, InLine, MOST_SAID, Said, Under, Words, name_of};
 use iom_base::{AccessKind, DeviceId, Owner, PAGE_SIZE, Refusal, Rights, Span};
 use iom_machine::Device;
 use iom_machine_judge::reasons::frame_refusal;
-
-/// What is looked for at a device's pages.
-#[derive(Clone, Copy)]
-pub(crate) enum Sought {
-    Frame(u64),
-    /// Whatever may be accessed so.
-    For(AccessKind),
-}
+use std::alloc::{AllocError, Global};
 
 /// Where a device may find what it means by a page.
 #[derive(Clone, Copy)]
@@ -58,22 +51,39 @@ impl Facts<'_> {
         held.or(self.kept.grants.lingering(device, page))
     }
 
-    /// Puts those places of the device to the others at which it reaches what is looked for.
-    pub(crate) fn add_places(&self, places: &mut Vec<Place>, id: DeviceId, sought: Sought) -> Said {
+    /// Puts those places of the device to the others at which it reaches a frame that is sought, or has rights that are.
+    pub(crate) fn add_places<F: Fn(u64, Rights) -> bool>(
+        &self,
+        places: &mut Vec<Place>,
+        id: DeviceId,
+        is_sought: F,
+    ) -> Said
+        requires { F.IsAlwaysCallable is_sought }
+    {
         for index in 0..self.kept.grants.page_count(id) {
             if let Some(page) = self.kept.grants.page_at(id, index) {
                 let place = Place::new(id, page);
-                let is_sought = match (self.reached(place), sought) {
-                    (None, _) => false,
-                    (Some((frame, _rights)), Sought::Frame(sought)) => sought == frame,
-                    (Some((_frame, rights)), Sought::For(kind)) => rights.allows(kind),
-                };
-                if is_sought {
-                    places.push(place)?;
+                if let Some((frame, rights)) = self.reached(place) {
+                    if is_sought(frame, rights) {
+                        places.push(place)?;
+                    }
                 }
             }
         }
         Ok(())
+    }
+
+    /// The places at which the device may find what it means.
+    fn places_of(&self, alloc: Global, meant: Meant) -> Result<Vec<Place>, AllocError> {
+        let mut places = Vec::new(alloc);
+        match meant {
+            Meant::At(place) => places.push(place)?,
+            Meant::Anywhere(id, kind) => {
+                let allows = |_frame: u64, rights: Rights| rights.allows(kind);
+                self.add_places(&mut places, id, allows)?;
+            }
+        }
+        Ok(places)
     }
 
     /// Puts the frames to the others that the device may find there, and that may come: eight at most.
@@ -85,11 +95,7 @@ impl Facts<'_> {
     ) -> Said
         requires { F.IsAlwaysCallable may_come }
     {
-        let mut places = Vec::new(*frames.allocator());
-        match meant {
-            Meant::At(place) => places.push(place)?,
-            Meant::Anywhere(id, kind) => self.add_places(&mut places, id, Sought::For(kind))?,
-        }
+        let places = self.places_of(*frames.allocator(), meant)?;
         for place in places.iter() {
             if let Some((frame, _rights)) = self.reached(*place) {
                 if frames.len() < MOST_SAID && !frames.contains(&frame) && may_come(frame) {
@@ -138,13 +144,8 @@ impl Facts<'_> {
 
     /// Says what the device reaches there.
     pub(crate) fn say_meant(&self, words: &mut Words, meant: Meant) -> Said {
-        let (id, kind) = match meant {
-            Meant::At(place) => return self.say_page(words, place),
-            Meant::Anywhere(id, kind) => (id, kind),
-        };
-        let mut places = Vec::new(words.alloc);
-        self.add_places(&mut places, id, Sought::For(kind))?;
-        if places.is_empty() {
+        let places = self.places_of(words.alloc, meant)?;
+        if let (Meant::Anywhere(id, kind), []) = (meant, places.as_slice()) {
             let name = name_of(kind);
             return words.say(format_args!(
                 "{id:06x} holds no frame that it may {name}, and none lingers for it"
@@ -212,7 +213,11 @@ impl Facts<'_> {
         }
         let mut places = Vec::new(words.alloc);
         for device in self.kept.devices.as_slice() {
-            self.add_places(&mut places, device.id, Sought::Frame(frame))?;
+            self.add_places(
+                &mut places,
+                device.id,
+                |reached: u64, _rights| reached == frame,
+            )?;
         }
         self.say_places(words, &places)
     }

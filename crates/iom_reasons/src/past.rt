@@ -1,6 +1,6 @@
 // Which frames devices had at their pages, the last one and the one before it, and which lines granted, released and confirmed them;
 // and which lines accepted what is in flight.
-use crate::accesses::Route;
+use crate::accesses::requester;
 use crate::words::Said;
 use indexmap::IndexMap;
 use iom_base::DeviceId;
@@ -196,9 +196,8 @@ impl Past {
                 let lines = self.flights.get_mut(device);
                 let _oldest = lines.and_then(|lines| lines.pop_front());
             }
-            (Event::Step { device }, Outcome::Accepted(_)) => self.accept(*device, line)?,
             (event, Outcome::Accepted(_)) => {
-                if let Some((_route, device)) = Route::of(event) {
+                if let Some(device) = requester(event) {
                     self.accept(device, line)?;
                 }
             }
