@@ -42,7 +42,7 @@ of_judge() {
     echo "$1  $2  $(($(counted "$(built judge)" "$1.trace") / $2))"
 }
 
-# A driver under test, a litmus test of 2,304 schedules and a picture of 2,000 lines.
+# A driver under test, a litmus test of 1,098 places and a picture of 2,000 lines.
 of_others() {
     script driver
     "$(built hw)" driver.script | cmp - driver.lines || { echo "driver: other lines"; exit 1; }
