@@ -44,7 +44,7 @@ impl Act {
 
     /// Why a device of this kind is refused that: it isn't there, or can't. None where it can.
     #[inline(always)]
-    fn refusal(self, known: Option<DeviceKind>) -> Option<Refusal>
+    pub(crate) fn refusal(self, known: Option<DeviceKind>) -> Option<Refusal>
         ensures { IsPermitted (kinds_for self) known result }
     {
         let Some(kind) = known else {

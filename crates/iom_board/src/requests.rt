@@ -1,6 +1,7 @@
 // What a device asks of memory, and what it is answered (IOMMU specification, section 2.3).
-ghost use Rattle.std.specs.Prelude.{◌+◌, ◌<◌, ◌^◌};
+ghost use Rattle.std.specs.Prelude.{◌≡◌, ◌+◌, ◌<◌, ◌^◌};
 ghost use Rattle.iom_inflight.specs.Invariant.{CarriesBytes};
+ghost use Rattle.iom_device.specs.Caches.{kind_in};
 ghost use Rattle.iom_iommu.specs.Requests.{access_of};
 ghost use Rattle.iom_board.specs.Counted.{IsCounted};
 ghost use Rattle.iom_board.specs.BoardParts.{board_parts};
@@ -11,7 +12,7 @@ ghost use Rattle.iom_board.specs.Invariant.{BoardInvariant};
 use crate::board::Board;
 use crate::permits::Act;
 use crate::sender::Sender;
-use iom_base::{AccessKind, DeviceId, Refusal};
+use iom_base::{AccessKind, DeviceId, DeviceKind, Refusal};
 use iom_iommu::Reply;
 
 impl Board {
@@ -37,8 +38,32 @@ impl Board {
         ensures invariants { BoardInvariant (board_parts self.new) self.new.events }
         ensures counted { IsCounted self.old self.new }
     {
+        self.request_of(sender, self.kind_of(id), id, address, len, kind, bytes)
+    }
+
+    /// The same of a device that was looked up: it is of this kind, or isn't there.
+    #[inline(always)]
+    pub fn request_of(
+        &mut self,
+        sender: Sender,
+        known: Option<DeviceKind>,
+        id: DeviceId,
+        address: u64,
+        len: u64,
+        kind: AccessKind,
+        bytes: &[u8],
+    ) -> Result<Reply, Refusal>
+        requires known { known ≡ kind_in self.old.devices.items id }
+        requires invariants { BoardInvariant (board_parts self.old) self.old.events }
+        requires count { self.old.events + 1 < 2 ^ 64 }
+        requires carries { CarriesBytes kind len bytes.now }
+        ensures effect { RequestsAccess (untranslated_by sender) (board_parts self.old) id
+            (access_of address len kind bytes.now) result (board_parts self.new) }
+        ensures invariants { BoardInvariant (board_parts self.new) self.new.events }
+        ensures counted { IsCounted self.old self.new }
+    {
         self.events += 1;
-        if let Some(why) = self.refusal(Act::Request(sender), id) {
+        if let Some(why) = Act::Request(sender).refusal(known) {
             return Err(why);
         }
         Ok(

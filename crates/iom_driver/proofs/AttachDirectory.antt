@@ -1,4 +1,4 @@
--- What an attach does to memory, marks and the directory: frames are chosen and cleared, and then the context is put.
+-- What an attach does to memory, owners and the directory: frames are chosen and cleared, and then the context is put.
 use Rattle.std.proofs.Common.{◌≡◌, ◌≢◌, ◌-◌, ◌<◌, ◌++◌, ◌∙◌, ◌⊎◌, inl, inr, ℕ, true, List, length, Option, Some, None, Ok, Err, Contains, slice_get, get_or, refl, sym, ap, subst, arith}
 use Rattle.iom_base.specs.declared.cause.Cause.TheVariants.{DirectoryEntryNotValid}
 use Rattle.iom_base.specs.declared.mode.Mode.{Mode}
@@ -42,7 +42,7 @@ pub record IsPut (memory memory' : List (List ℕ)) (levels root id : ℕ) (stag
 pub record MayTake (d : DriverState) (frames : ℕ) (memory : List (List ℕ)) (count : ℕ) (pages roots : List ℕ) : Type 0 where
   pub range : IsLevels d.levels
   pub size : length memory ≡ frames
-  pub marked : length d.owners ≡ frames
+  pub owned : length d.owners ≡ frames
   pub fixed : AreFixed d.owners frames
   pub stands : DirectoryIn frames memory d.owners d.devices d.levels
   pub taken : AreTaken d.owners d.ledger frames count pages roots
@@ -51,11 +51,11 @@ pub may_take : (d : DriverState) (frames : ℕ) (memory : List (List ℕ)) (coun
     → StateInvariant d.ledger d.owners d.devices frames d.levels d.started d.given d.confirmed d.restarts d.restarted → TablesStand d memory → d.started ≡ true
     → AreHighestFree d.owners d.ledger None frames count pages → IsRootBelow mode d (limit_below frames pages) root → MayTake d frames memory count pages (root_frames mode root)
 may_take d frames memory count mode root pages invariants stand runs chose is =
-    let many : length memory ≡ frames = stand.size ∙ invariants.sizes.marked in
+    let many : length memory ≡ frames = stand.size ∙ invariants.sizes.owned in
     record {
       range = invariants.sizes.in_range;
       size = many;
-      marked = invariants.sizes.marked;
+      owned = invariants.sizes.owned;
       fixed = invariants.fixed;
       stands = in_stands frames memory d.owners d.devices d.levels many (stand.directory runs);
       taken = taken_so mode d frames count pages root chose is;
@@ -70,7 +70,7 @@ module _ (d : DriverState) (frames : ℕ) (memory : List (List ℕ)) (id count :
 
   -- a frame that is somebody's stays as it is
   pub owned_apart : (n : ℕ) (owner : Owner) → slice_get d.owners n ≡ Some (Some owner) → NotAmong n (pages ++ roots)
-  owned_apart n owner own = owned_not_taken d.owners d.ledger frames count n pages roots owner may.marked may.taken own
+  owned_apart n owner own = owned_not_taken d.owners d.ledger frames count n pages roots owner may.owned may.taken own
 
   pub owned_kept : (n : ℕ) (owner : Owner) → slice_get d.owners n ≡ Some (Some owner) → (slice_get between n ≡ slice_get memory n) × (slice_get owners' n ≡ slice_get d.owners n)
   owned_kept n owner own = (bytes_stay n (pages ++ roots) memory (owned_apart n owner own), taken_stays id n pages roots d.owners (owned_apart n owner own))
@@ -80,7 +80,7 @@ module _ (d : DriverState) (frames : ℕ) (memory : List (List ℕ)) (id count :
   taken_unmarked n here =
       let inside : n < frames = taken_inside d.owners d.ledger frames count pages roots may.taken n here in
       let free = taken_free d.owners d.ledger frames count pages roots may.taken n here in
-      unmarked d.owners n (omega (arith, inside, may.marked)) free.unmarked
+      unmarked d.owners n (omega (arith, inside, may.owned)) free.unmarked
 
   -- the directory stands while the frames are cleared
   pub stands_between : DirectoryIn frames between d.owners d.devices d.levels
@@ -161,7 +161,7 @@ module _ (d : DriverState) (frames : ℕ) (memory : List (List ℕ)) (id count :
     pub roots_new : (f : ℕ) → Among f roots → (slice_get memory' f ≡ Some zeroed) × (slice_get owners' f ≡ Some (Some (OneDevice id)))
     roots_new f here =
         let all = among_right f pages roots here in
-        let long : length (owned_by System pages d.owners) ≡ frames = length-owned_by System pages d.owners ∙ may.marked in (
+        let long : length (owned_by System pages d.owners) ≡ frames = length-owned_by System pages d.owners ∙ may.owned in (
           put_keeps f (page_apart f all) (may.taken.apart f here) ∙ taken_zero f all,
           marked_among (OneDevice id) f roots (owned_by System pages d.owners)
               (all_among (λ n. n < length (owned_by System pages d.owners)) roots (λ n at. subst (λ m. n < m) (sym long) (may.taken.inside n at))) here,
@@ -174,7 +174,7 @@ module _ (d : DriverState) (frames : ℕ) (memory : List (List ℕ)) (id count :
         let free = taken_unmarked f (among_left f pages roots here) in
         record {
           system = mark_stays (OneDevice id) f roots (owned_by System pages d.owners) (apart_either pages roots may.taken.apart f here)
-              ∙ marked_among System f pages d.owners (λ k d lt. subst (λ n. get_or pages k d < n) (sym may.marked) (may.taken.chosen.inside k d lt)) here;
+              ∙ marked_among System f pages d.owners (λ k d lt. subst (λ n. get_or pages k d < n) (sym may.owned) (may.taken.chosen.inside k d lt)) here;
           no_command = λ same. owned_differs d.owners (frames - 1) f System may.fixed.command free (sym same);
           no_fault = λ same. owned_differs d.owners (frames - 2) f System may.fixed.fault free (sym same);
           no_completion = λ same. owned_differs d.owners (frames - 3) f System may.fixed.completion free (sym same);

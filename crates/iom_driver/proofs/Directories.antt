@@ -59,11 +59,11 @@ low_id levels id = by (levels == 1) (levels == 2)
     by false true lt = omega (arith, lt)
     by false false lt = omega (arith, lt)
 
--- a directory frame stays one while its mark does
+-- a directory frame stays one while its owner does
 frame_stays : (owners owners' : List (Option Owner)) (frames page : ℕ) → slice_get owners' page ≡ slice_get owners page → IsDirectoryFrame owners frames page → IsDirectoryFrame owners' frames page
 frame_stays owners owners' frames page same own = record { system = same ∙ own.system; no_command = own.no_command; no_fault = own.no_fault; no_completion = own.no_completion }
 
--- while its own frames stay as they are, bytes and marks, the same devices are attached, and none owns what it didn't
+-- while its own frames stay as they are, bytes and owners, the same devices are attached, and none owns what it didn't
 pub directory_stay : (frames : ℕ) (memory memory' : List (List ℕ)) (owners owners' : List (Option Owner)) (devices devices' : List Device) (levels : ℕ) → IsLevels levels → length memory' ≡ length memory
     → ((n : ℕ) → IsDirectoryFrame owners frames n → (slice_get memory' n ≡ slice_get memory n) × (slice_get owners' n ≡ slice_get owners n))
     → ((id : ℕ) → stages_of devices' id ≡ stages_of devices id) → ((id : ℕ) (stage : Stages) → owned_stages_of devices' id ≡ Some stage → owned_stages_of devices id ≡ Some stage)

@@ -1,4 +1,4 @@
--- The devices, and the marks, once some leaving devices' tickets are confirmed.
+-- The devices, and the owners, once some leaving devices' tickets are confirmed.
 use Rattle.std.proofs.Common.{suc, ◌≡◌, ◌==◌, ◌<◌, ◌∙◌, ℕ, Bool, true, false, nat_le, List, [], ◌∷◌, map, Option, Some, None, option_map, slice_get, refl, sym, ap, subst, if◌then◌else◌, arith}
 use Rattle.std.specs.Option.{option_map_or}
 use Rattle.std.proofs.lemmas.Bool.Decides.{nat_tests}
@@ -102,7 +102,7 @@ pub ids_confirmed : (done : ℕ) (devices : List Device) → HaveOwnIds devices 
 ids_confirmed done [] own = own
 ids_confirmed done (device ∷ others) own = (device_confirmed done others device.id ∙ ap (option_map (driven_once_confirmed done)) own.0, ids_confirmed done others own.1)
 
--- marks: nobody's stays nobody's, the system's the system's, and that of a device that hasn't left its own
+-- frames: nobody's stays nobody's, the system's the system's, and that of a device that hasn't left its own
 pub unmarked_back : (done : ℕ) (devices : List Device) (owners : List (Option Owner)) (n : ℕ) → slice_get owners n ≡ Some None → slice_get (map (owner_given_back done devices) owners) n ≡ Some None
 unmarked_back done devices owners n at = slice_get-map (owner_given_back done devices) owners n ∙ ap (option_map (owner_given_back done devices)) at
 

@@ -94,7 +94,7 @@ clears_stay done devices device owners old new none unchanged clears = record {
 
 -- THE DEVICE HAS LEFT
 
--- a mark that is somebody's was that one's
+-- an owner that a frame has it had before
 back_from : (done : ℕ) (devices : List Device) (mark : Option (Option Owner)) (owner : Owner) → option_map (owner_given_back done devices) mark ≡ Some (Some owner) → mark ≡ Some (Some owner)
 back_from done devices None owner is = cc
 back_from done devices (Some None) owner is = cc

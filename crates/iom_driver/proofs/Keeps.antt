@@ -77,7 +77,7 @@ grants_polled owners old new first n confirmed grants = record {
       grants.lingering d a frame rights (unless_some first n (released_in old d a) (frame, rights) (sym (ap (option_map (λ (r : ℕ × Pair). r.1)) (confirmed.lingering d a)) ∙ lingers));
 }
 
--- grants, where marks of devices that have left are given back
+-- grants, where frames of devices that have left are given back
 grants_back : (owners : List (Option Owner)) (ledger : Ledger) (done : ℕ) (devices : List Device) → AreGrants owners ledger → AreGrants (map (owner_given_back done devices) owners) ledger
 grants_back owners ledger done devices grants = record {
   held = λ d a frame rights held.
@@ -99,7 +99,7 @@ pub sound_polled : (old new : Ledger) (owners : List (Option Owner)) (devices : 
     → StateInvariant old owners devices frames levels started given confirmed restarts restarted → ConfirmsFrom old new (confirmed + 1) (done - confirmed) → confirmed ≤ done → done ≤ given
     → StateInvariant new (map (owner_given_back done devices) owners) (map (driven_once_confirmed done) devices) frames levels started given done restarts restarted
 sound_polled old new owners devices frames levels started given confirmed restarts restarted done invariants shown low high = record {
-  sizes = record { marked = length-map owners (owner_given_back done devices) ∙ invariants.sizes.marked; size = invariants.sizes.size; in_range = invariants.sizes.in_range };
+  sizes = record { owned = length-map owners (owner_given_back done devices) ∙ invariants.sizes.owned; size = invariants.sizes.size; in_range = invariants.sizes.in_range };
   fixed = fixed_back owners done devices frames invariants.fixed;
   grants = grants_back owners new done devices (grants_polled owners old new (confirmed + 1) (done - confirmed) shown invariants.grants);
   holders = λ id page none. shown.held id page ∙ invariants.holders id page (sym (stage_confirmed done devices id) ∙ none);
@@ -167,9 +167,9 @@ sound_attached ledger owners devices frames levels started given confirmed resta
     let either : (other : ℕ) → ((other ≡ id) × (attachment_by_id (with_attachment devices id (Attached stage)) other ≡ Attached stage)) ⊎ ((other ≢ id) × (attachment_by_id (with_attachment devices id (Attached stage)) other ≡ attachment_by_id devices other)) =
     λ other. set_or_other devices id (Attached stage) other plugged in
     record {
-      sizes = record { marked = length-taken id pages roots owners ∙ invariants.sizes.marked; size = invariants.sizes.size; in_range = invariants.sizes.in_range };
+      sizes = record { owned = length-taken id pages roots owners ∙ invariants.sizes.owned; size = invariants.sizes.size; in_range = invariants.sizes.in_range };
       fixed = fixed_stay owners (taken_owners id pages roots owners) frames
-          (λ n system. taken_stays id n pages roots owners (owned_not_taken owners ledger frames count n pages roots System invariants.sizes.marked taken system)) invariants.fixed;
+          (λ n system. taken_stays id n pages roots owners (owned_not_taken owners ledger frames count n pages roots System invariants.sizes.owned taken system)) invariants.fixed;
       grants = grants_reserved owners (taken_owners id pages roots owners) ledger (pages ++ roots) invariants.grants
           (all_among (λ f. IsFreeForTable owners ledger None f) (pages ++ roots) (taken_free owners ledger frames count pages roots taken)) (λ n apart. taken_stays id n pages roots owners apart);
       holders = λ other page none. elim (either other) [
@@ -306,7 +306,7 @@ pub sound_granted : (old new : Ledger) (owners : List (Option Owner)) (devices :
     → page < page_limit_of Sv48 → slice_get owners frame ≡ Some None → All (λ f. f < length owners) tables → All (λ f. IsFreeForTable owners old (Some frame) f) tables
     → StateInvariant new (owned_by (OneDevice id) tables owners) devices frames levels started given confirmed restarts restarted
 sound_granted old new owners devices frames levels started given confirmed restarts restarted id page frame rights stage tables invariants granted attached low unreserved inside free = record {
-  sizes = record { marked = length-owned_by (OneDevice id) tables owners ∙ invariants.sizes.marked; size = invariants.sizes.size; in_range = invariants.sizes.in_range };
+  sizes = record { owned = length-owned_by (OneDevice id) tables owners ∙ invariants.sizes.owned; size = invariants.sizes.size; in_range = invariants.sizes.in_range };
   fixed = fixed_stay owners (owned_by (OneDevice id) tables owners) frames
       (λ n system. mark_stays (OneDevice id) n tables owners (not_among (λ t. (t < length owners) × IsFreeForTable owners old (Some frame) t) n tables (λ k d lt. (inside k d lt, free k d lt))
       (λ is_free. owned_differs owners n n System system (unmarked owners n is_free.0 is_free.1.unmarked) refl))) invariants.fixed;

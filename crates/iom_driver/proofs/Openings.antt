@@ -61,7 +61,7 @@ fixed n le =
 
 sound_at_start : (ledger : Ledger) (n levels : ℕ) → IsMemorySize n → IsLevels levels → Agrees ledger [] → StateInvariant ledger (opening_owners n) [] n levels false 0 0 0 0
 sound_at_start ledger n levels size range agrees = record {
-  sizes = record { marked = marked n size.0; size = size; in_range = range };
+  sizes = record { owned = marked n size.0; size = size; in_range = range };
   fixed = fixed n size.0;
   grants = record {
     held = λ device page frame rights held. absurd (not_both (held_in ledger device page) (frame, rights) (none_held ledger agrees device page) held);

@@ -1,4 +1,4 @@
--- Some frames become an owner's: their marks, their bytes, and what stays.
+-- Some frames become an owner's: whose they are, their bytes, and what stays.
 use Rattle.std.proofs.Common.{suc, zero, ◌≡◌, ◌≢◌, ◌<◌, ◌⊎◌, inl, inr, ◌∙◌, ℕ, List, [], ◌∷◌, ◌++◌, length, Option, Some, slice_get, slice_set, get_or, refl, sym, subst, arith, All, Contains}
 use Rattle.std.proofs.lemmas.List.{length-set}
 use Rattle.std.proofs.lemmas.Bool.Decides.{eqb_tells}
@@ -96,7 +96,7 @@ pub length-cleared : (fs : List ℕ) (memory : List (List ℕ)) → length (clea
 length-cleared [] memory = refl
 length-cleared (f ∷ fs) memory = length-cleared fs (slice_set memory f zeroed) ∙ length-set memory f zeroed
 
--- another frame keeps its mark, and its bytes
+-- another frame keeps its owner, and its bytes
 pub mark_stays : (owner : Owner) (n : ℕ) (fs : List ℕ) (owners : List (Option Owner)) → NotAmong n fs → slice_get (owned_by owner fs owners) n ≡ slice_get owners n
 mark_stays owner n [] owners other = refl
 mark_stays owner n (f ∷ fs) owners other = mark_stays owner n fs (slice_set owners f (Some owner)) other.1 ∙ get_set_other owners f n (Some owner) other.0
@@ -105,7 +105,7 @@ pub bytes_stay : (n : ℕ) (fs : List ℕ) (memory : List (List ℕ)) → NotAmo
 bytes_stay n [] memory other = refl
 bytes_stay n (f ∷ fs) memory other = bytes_stay n fs (slice_set memory f zeroed) other.1 ∙ get_set_other memory f n zeroed other.0
 
--- a frame that is marked so, or is one of the list, is marked so afterwards
+-- a frame that is the owner's, or is one of the list, is the owner's afterwards
 pub marked_still : (owner : Owner) (n : ℕ) (fs : List ℕ) (owners : List (Option Owner)) → slice_get owners n ≡ Some (Some owner) → slice_get (owned_by owner fs owners) n ≡ Some (Some owner)
 marked_still owner n [] owners own = own
 marked_still owner n (f ∷ fs) owners own =

@@ -12,7 +12,7 @@ use Rattle.iom_driver.proofs.Directories.{DirectoryIn, directory_stay}
 use Rattle.iom_driver.proofs.Gone.{still_owned, stage_confirmed, marked_back}
 use Rattle.iom_driver.proofs.Unchanged.{tables_stay}
 
--- a frame of an owner that hasn't gone keeps its bytes and its mark
+-- a frame of an owner that hasn't gone keeps its bytes and its owner
 pub owned_stays : (done : ℕ) (devices : List Device) (owners : List (Option Owner)) (memory memory' : List (List ℕ)) (n : ℕ) (owner : Owner) → ClearsGone done devices owners memory memory'
     → slice_get owners n ≡ Some (Some owner) → is_gone done devices owner ≡ false → (slice_get memory' n ≡ slice_get memory n) × (slice_get (map (owner_given_back done devices) owners) n ≡ slice_get owners n)
 owned_stays done devices owners memory memory' n owner clears own unchanged = (

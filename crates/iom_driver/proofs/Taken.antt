@@ -1,4 +1,4 @@
--- The marks, once the chosen frames become pages of the directory and a device's root.
+-- The owners, once the chosen frames become pages of the directory and a device's root.
 use Rattle.std.proofs.Common.{◌≡◌, ◌≢◌, ◌<◌, ◌∙◌, inl, inr, ℕ, true, false, List, ◌++◌, length, Option, Some, None, slice_get, refl, sym, ap, subst}
 use Rattle.iom_base.specs.declared.owner.Owner.{Owner}
 use Rattle.iom_base.specs.declared.owner.Owner.TheVariants.{OneDevice, System}
@@ -9,7 +9,7 @@ use Rattle.iom_driver.proofs.Chosen.{AreChosen}
 use Rattle.iom_driver.proofs.Lists.{get_there}
 use Rattle.iom_driver.proofs.Owners.{Among, NotAmong, not_among, not_among_left, not_among_right, among_either, among_all, all_among, length-owned_by, mark_stays}
 
--- a frame that isn't marked has no mark
+-- a frame that isn't owned has no owner
 pub unmarked : (owners : List (Option Owner)) (n : ℕ) → n < length owners → has_owner owners n ≡ false → slice_get owners n ≡ Some None
 unmarked owners n lt free = by (get_there owners n lt) free
   where
@@ -32,14 +32,14 @@ owned_not_chosen owners ledger named limit count n chosen owner long chose mark 
     not_among (λ t. (t < limit) × IsFreeForTable owners ledger named t) n chosen (λ k d lt. (chose.inside k d lt, chose.free k d lt))
     (λ is_free. owned_differs owners n n owner mark (unmarked owners n (subst (λ m. n < m) (sym long) is_free.0) is_free.1.unmarked) refl)
 
--- the marks: the pages are the system's, and the root's frames the device's
+-- the owners: the pages are the system's, and the root's frames the device's
 abbrev pub taken_owners : ℕ → List ℕ → List ℕ → List (Option Owner) → List (Option Owner)
 taken_owners id pages roots owners = owned_by (OneDevice id) roots (owned_by System pages owners)
 
 pub length-taken : (id : ℕ) (pages roots : List ℕ) (owners : List (Option Owner)) → length (taken_owners id pages roots owners) ≡ length owners
 length-taken id pages roots owners = length-owned_by (OneDevice id) roots (owned_by System pages owners) ∙ length-owned_by System pages owners
 
--- another frame keeps its mark
+-- another frame keeps its owner
 pub taken_stays : (id n : ℕ) (pages roots : List ℕ) (owners : List (Option Owner)) → NotAmong n (pages ++ roots) → slice_get (taken_owners id pages roots owners) n ≡ slice_get owners n
 taken_stays id n pages roots owners apart =
     mark_stays (OneDevice id) n roots (owned_by System pages owners) (not_among_right n pages roots apart) ∙ mark_stays System n pages owners (not_among_left n pages roots apart)

@@ -13,7 +13,7 @@ use Rattle.iom_registers.specs.declared.register.Register.TheVariants.{Fqh, Fqcs
 use Rattle.iom_registers.specs.Queues.{fault_head, fault_tail, is_fault_queue_on}
 use Rattle.iom_registers.specs.Table.{written}
 use Rattle.iom_driver.specs.Ready.{IsReport, IsFaultRing, IsReady, KeepsFaults}
-use Rattle.iom_driver.specs.Reports.{TakesOldestRecord, cleared_marks}
+use Rattle.iom_driver.specs.Reports.{TakesOldestRecord, cleared_flags}
 use Rattle.iom_driver.specs.State.{DriverState}
 use Rattle.iom_driver.proofs.FaultRings.{fault_ring_stays}
 
@@ -66,15 +66,15 @@ none_waits memory r none =
     empty memory r (eqb-true (fault_head r) (fault_tail r) (no_entry (fault_head r == fault_tail r) (record_at memory (record_place r (fault_head r))) none))
 
 -- and while fqmf and fqof are cleared
-marks_kept : (r : Registers) → is_fault_queue_on r ≡ true → KeepsFaults r (written r Fqcsr cleared_marks)
+marks_kept : (r : Registers) → is_fault_queue_on r ≡ true → KeepsFaults r (written r Fqcsr cleared_flags)
 marks_kept r on = record { on = rw on refl; base = refl; head = refl; tail = rw on refl }
 
-pub ready_cleared : (d : DriverState) (memory : List (List ℕ)) (r s : Registers) → IsReady d memory r → d.started ≡ true → s ≡ written r Fqcsr cleared_marks → IsReady d memory s
+pub ready_cleared : (d : DriverState) (memory : List (List ℕ)) (r s : Registers) → IsReady d memory r → d.started ≡ true → s ≡ written r Fqcsr cleared_flags → IsReady d memory s
 ready_cleared d memory r s ready runs is =
     let was = ready.faults runs in
     subst (λ x. IsReady d memory x) (sym is) record {
       stand = ready.stand;
       ring = λ started. let ring = ready.ring started in record { on = ring.on; base = ring.base; entries = ring.entries };
-      faults = λ started. fault_ring_stays memory memory r (written r Fqcsr cleared_marks) refl refl (marks_kept r was.on) was;
+      faults = λ started. fault_ring_stays memory memory r (written r Fqcsr cleared_flags) refl refl (marks_kept r was.on) was;
       directory = λ started. let named = ready.directory started in record { mode = named.mode; root = named.root };
     }

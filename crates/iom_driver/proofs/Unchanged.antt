@@ -23,7 +23,7 @@ use Rattle.iom_driver.proofs.Owners.{Among}
 use Rattle.iom_driver.proofs.Modes.{rest, rooted, root_in, table_of, table_in}
 use Rattle.iom_driver.proofs.Places.{attachment_plugged}
 
--- the frames that are marked for the device stay as they are, mark and bytes, and so does what it holds: its tables do
+-- the frames that are the device's stay as they are, owner and bytes, and so does what it holds: its tables do
 pub tables_stay : (memory memory' : List (List ℕ)) (owners owners' : List (Option Owner)) (ledger ledger' : Ledger) (id : ℕ) (mode : Mode) (root : ℕ) → AreTablesOf memory owners ledger id mode root
     → ((n : ℕ) → slice_get owners n ≡ Some (Some (OneDevice id)) → (slice_get memory' n ≡ slice_get memory n) × (slice_get owners' n ≡ slice_get owners n))
     → ((page : ℕ) → held_in ledger' id page ≡ held_in ledger id page) → AreTablesOf memory' owners' ledger' id mode root
@@ -46,7 +46,7 @@ tables_stay memory memory' owners owners' ledger ledger' id mode root tables kep
       leaves = λ page low. same.leaves page ∙ tables.leaves page low ∙ ap (option_map leaf_for) (sym (held page));
     }
 
--- the same, where the marks and the ledger stay
+-- the same, where the owners and the ledger stay
 pub tables_kept : (memory memory' : List (List ℕ)) (owners : List (Option Owner)) (ledger : Ledger) (id : ℕ) (mode : Mode) (root : ℕ) → AreTablesOf memory owners ledger id mode root
     → ((n : ℕ) → slice_get owners n ≡ Some (Some (OneDevice id)) → slice_get memory' n ≡ slice_get memory n) → length memory' ≡ length memory
     → AreTablesOf memory' owners ledger id mode root

@@ -65,7 +65,7 @@ pub record AreFences (given restarts restarted : ℕ) : Type 0 where
 
 -- memory has so many frames, each of which has an owner or none, and the directory so many levels
 pub record AreSizes (owners : List (Option Owner)) (frames levels : ℕ) : Type 0 where
-  pub marked : length owners ≡ frames
+  pub owned : length owners ≡ frames
   pub size : IsMemorySize frames
   pub in_range : IsLevels levels
 

@@ -18,7 +18,7 @@ pub(crate) fn reserve_all(
     frames: &[u32],
     owner: Owner,
 )
-    requires marked { All (λ frame. frame < length owners.old) frames.now }
+    requires owned { All (λ frame. frame < length owners.old) frames.now }
     requires inside { All (λ frame. frame < length memory.old) frames.now }
     ensures owners { owners.new ≡ owned_by owner frames.now owners.old }
     ensures memory { memory.new ≡ cleared frames.now memory.old }
@@ -30,7 +30,7 @@ pub(crate) fn reserve_all(
 
 /// Reserves four frames side by side for the owner, and makes them zero.
 fn reserve_four(owners: &mut TableFrames, memory: &mut Memory, root: u32, owner: Owner)
-    requires marked { All (λ frame. frame < length owners.old) (root ∷ other_quarters root) }
+    requires owned { All (λ frame. frame < length owners.old) (root ∷ other_quarters root) }
     requires inside { All (λ frame. frame < length memory.old) (root ∷ other_quarters root) }
     requires fits { root + 4 < 2 ^ 32 }
     ensures owners { owners.new ≡ owned_by owner (root ∷ other_quarters root) owners.old }
@@ -48,7 +48,7 @@ pub(crate) fn reserve_root(
     root: u32,
     owner: Owner,
 )
-    requires marked { All (λ frame. frame < length owners.old) (root_frames mode root) }
+    requires owned { All (λ frame. frame < length owners.old) (root_frames mode root) }
     requires inside { All (λ frame. frame < length memory.old) (root_frames mode root) }
     requires fits { root + 4 < 2 ^ 32 }
     ensures owners { owners.new ≡ owned_by owner (root_frames mode root) owners.old }

@@ -128,10 +128,11 @@ fn access(
     ensures invariants { BoardInvariant (board_parts board.new) board.new.events }
     ensures counted { IsCounted board.old board.new }
 {
-    if caches(board.kind_of(id)) {
+    let known = board.kind_of(id);
+    if caches(known) {
         return through_cache(board, id, address, len, kind, bytes);
     }
-    let reply = board.request(Sender::Step, id, address, len, kind, bytes)?;
+    let reply = board.request_of(Sender::Step, known, id, address, len, kind, bytes)?;
     Ok(Stepped::Began(reply))
 }
 

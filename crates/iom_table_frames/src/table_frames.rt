@@ -118,7 +118,7 @@ impl TableFrames {
 
     /// Reserves the frame for the owner, and makes its bytes zero.
     pub fn reserve(&mut self, memory: &mut Memory, frame: u32, owner: Owner)
-        requires marked { frame < length self.old }
+        requires owned { frame < length self.old }
         requires inside { frame < length memory.old }
         ensures owners { self.new ≡ slice_set self.old frame (Some owner) }
         ensures zero { memory.new ≡ slice_set memory.old frame zeroed }
@@ -161,7 +161,7 @@ impl TableFrames {
 
     /// Takes the owner off the frame, and makes its bytes zero.
     fn release(&mut self, memory: &mut Memory, frame: u32)
-        requires marked { frame < length self.old }
+        requires owned { frame < length self.old }
         requires inside { frame < length memory.old }
         ensures owners { self.new ≡ slice_set self.old frame None }
         ensures zero { memory.new ≡ slice_set memory.old frame zeroed }

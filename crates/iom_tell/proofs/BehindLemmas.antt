@@ -13,13 +13,13 @@ use Rattle.iom_trace_lines.specs.TraceLines.{is_accepted, takes_frames}
 use Rattle.iom_world.specs.Shown.{Shown}
 use Rattle.iom_tell.specs.declared.behind.Behind.{Behind}
 use Rattle.iom_tell.specs.declared.behind.Behind.TheVariants.{Nothing, Tables, On, Began}
-use Rattle.iom_tell.specs.Told.{AreMarksOf, behind_of, behind_accepted, behind_asked, began_by, behind_text, is_reserved_in, may_take, newest_frame, shown_tables, is_taken_since, taken_below, taken_by, told_line}
+use Rattle.iom_tell.specs.Told.{AreReservedOf, behind_of, behind_accepted, behind_asked, began_by, behind_text, is_reserved_in, may_take, newest_frame, shown_tables, is_taken_since, taken_below, taken_by, told_line}
 use Rattle.iom_tell.proofs.TakenLemmas.{same_taken}
 
 -- what was noted before is what was so before
-pub taken_as_noted : (marks : List Bool) (old new : Shown) → AreMarksOf marks old → taken_below (is_taken_since marks new) 4096 ≡ taken_by old new
-taken_as_noted marks old new noted =
-    same_taken (is_taken_since marks new) (λ frame. is_reserved_in new frame && not (is_reserved_in old frame)) 4096
+pub taken_as_noted : (frames : List Bool) (old new : Shown) → AreReservedOf frames old → taken_below (is_taken_since frames new) 4096 ≡ taken_by old new
+taken_as_noted frames old new noted =
+    same_taken (is_taken_since frames new) (λ frame. is_reserved_in new frame && not (is_reserved_in old frame)) 4096
     (λ frame lt. ap (λ (b : Bool). is_reserved_in new frame && not b) (noted frame lt))
 
 -- where no tables are shown, it is the same whatever was noted
@@ -84,11 +84,11 @@ same_behind_by these those now event false true same = same_text these those (be
 same_behind_by these those now event false false same = refl
 
 -- what is shown is so, where the frames were noted before an event that takes some
-pub told_as_noted : (marks : List Bool) (old new : Shown) (event : Event) (outcome : Outcome) → (takes_frames event outcome ≡ true → AreMarksOf marks old)
-    → behind_text (taken_below (is_taken_since marks new) 4096) (behind_of new event outcome) ≡ behind_text (taken_by old new) (behind_of new event outcome)
-told_as_noted marks old new event outcome noted =
-    same_behind_by (taken_below (is_taken_since marks new) 4096) (taken_by old new) new event (takes_frames event outcome) (is_accepted outcome)
-    (λ is. taken_as_noted marks old new (noted is))
+pub told_as_noted : (frames : List Bool) (old new : Shown) (event : Event) (outcome : Outcome) → (takes_frames event outcome ≡ true → AreReservedOf frames old)
+    → behind_text (taken_below (is_taken_since frames new) 4096) (behind_of new event outcome) ≡ behind_text (taken_by old new) (behind_of new event outcome)
+told_as_noted frames old new event outcome noted =
+    same_behind_by (taken_below (is_taken_since frames new) 4096) (taken_by old new) new event (takes_frames event outcome) (is_accepted outcome)
+    (λ is. taken_as_noted frames old new (noted is))
 
 -- an event that takes frames is one that may
 pub takes_if_it_may : (event : Event) (outcome : Outcome) → takes_frames event outcome ≡ true → may_take event ≡ true
@@ -126,9 +126,9 @@ takes_if_it_may (events.Peek address len) outcome takes = takes
 takes_if_it_may (events.Free frame) outcome takes = takes
 
 -- the whole line
-pub line_as_noted : (marks : List Bool) (old new : Shown) (event : Event) (outcome : Outcome) (before after : List ℕ) → (may_take event ≡ true → AreMarksOf marks old)
-    → after ≡ before ++ (event_text event ++ codes " => " ++ outcome_text outcome ++ behind_text (taken_below (is_taken_since marks new) 4096) (behind_of new event outcome)) ++ 10 ∷ []
+pub line_as_noted : (frames : List Bool) (old new : Shown) (event : Event) (outcome : Outcome) (before after : List ℕ) → (may_take event ≡ true → AreReservedOf frames old)
+    → after ≡ before ++ (event_text event ++ codes " => " ++ outcome_text outcome ++ behind_text (taken_below (is_taken_since frames new) 4096) (behind_of new event outcome)) ++ 10 ∷ []
     → after ≡ before ++ told_line old event outcome new ++ 10 ∷ []
-line_as_noted marks old new event outcome before after noted is =
+line_as_noted frames old new event outcome before after noted is =
     subst (λ (b : List ℕ). after ≡ before ++ (event_text event ++ codes " => " ++ outcome_text outcome ++ b) ++ 10 ∷ [])
-    (told_as_noted marks old new event outcome (λ takes. noted (takes_if_it_may event outcome takes))) is
+    (told_as_noted frames old new event outcome (λ takes. noted (takes_if_it_may event outcome takes))) is

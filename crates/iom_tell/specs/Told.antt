@@ -130,12 +130,12 @@ told_said old event outcome new = said_behind (taken_by old new) event outcome (
 -- FOR THE CALLS INSIDE: which frames were reserved is noted before the event
 
 -- so it is noted of each frame
-abbrev pub AreMarksOf : List Bool → Shown → Type 0
-AreMarksOf marks now = (frame : ℕ) → frame < 4096 → get_or marks frame false ≡ is_reserved_in now frame
+abbrev pub AreReservedOf : List Bool → Shown → Type 0
+AreReservedOf noted now = (frame : ℕ) → frame < 4096 → get_or noted frame false ≡ is_reserved_in now frame
 
 -- the frame wasn't reserved when that was noted, and is now
 abbrev pub is_taken_since : List Bool → Shown → ℕ → Bool
-is_taken_since marks now frame = is_reserved_in now frame && not (get_or marks frame false)
+is_taken_since noted now frame = is_reserved_in now frame && not (get_or noted frame false)
 
 -- the event may take frames
 abbrev pub may_take : Event → Bool

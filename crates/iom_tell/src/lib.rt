@@ -8,13 +8,13 @@
 #![tactic(auto)]
 
 mod behind;
-mod marks;
+mod reserved;
 mod shown;
 mod tables;
 mod tell_fault;
 mod telling;
 
 pub use behind::Behind;
-pub use marks::FrameMarks;
+pub use reserved::ReservedFrames;
 pub use tell_fault::TellFault;
 pub use telling::{TELL_ROOM, tell_event};

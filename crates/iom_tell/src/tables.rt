@@ -5,14 +5,14 @@ ghost use Rattle.iom_trace_lines.specs.TraceLines.{frames_text};
 ghost use Rattle.iom_world.specs.Shown.{shown_of};
 ghost use Rattle.iom_tell.specs.Told.{is_taken_since, taken_below, shown_tables};
 
-use crate::marks::FrameMarks;
+use crate::reserved::ReservedFrames;
 use iom_phys_mem::MAX_FRAMES;
 use iom_script::{BUFFER_SIZE, LineBuffer};
 use iom_virtio_blk::Disk;
 use iom_world::World;
 
 /// Whether the frame was taken since that was noted.
-fn is_taken<D: Disk>(world: &World<D>, before: &FrameMarks, frame: u32) -> bool
+fn is_taken<D: Disk>(world: &World<D>, before: &ReservedFrames, frame: u32) -> bool
     requires { frame < 4096 }
     ensures { result ≡ is_taken_since before.now (shown_of D.shown world.now) frame }
 {
@@ -20,7 +20,7 @@ fn is_taken<D: Disk>(world: &World<D>, before: &FrameMarks, frame: u32) -> bool
 }
 
 /// How many frames were taken.
-fn count_taken<D: Disk>(world: &World<D>, before: &FrameMarks) -> u32
+fn count_taken<D: Disk>(world: &World<D>, before: &ReservedFrames) -> u32
     ensures { result ≡ length (taken_below (is_taken_since before.now (shown_of D.shown world.now)) 4096) }
 {
     let mut count = 0;
@@ -44,7 +44,7 @@ fn append_frame(out: &mut LineBuffer, frame: u64)
 }
 
 /// Appends each frame that was taken, with a space before it.
-fn append_frames<D: Disk>(out: &mut LineBuffer, world: &World<D>, before: &FrameMarks)
+fn append_frames<D: Disk>(out: &mut LineBuffer, world: &World<D>, before: &ReservedFrames)
     requires room { length out.old + 20501 ≤ BUFFER_SIZE }
     ensures text { out.new ≡ out.old ++ frames_text (taken_below (is_taken_since before.now (shown_of D.shown world.now)) 4096) }
     ensures short { length out.new ≤ length out.old + 20480 }
@@ -57,7 +57,11 @@ fn append_frames<D: Disk>(out: &mut LineBuffer, world: &World<D>, before: &Frame
 }
 
 /// Appends the frames that were taken, if there are any.
-pub(crate) fn append_tables<D: Disk>(out: &mut LineBuffer, world: &World<D>, before: &FrameMarks)
+pub(crate) fn append_tables<D: Disk>(
+    out: &mut LineBuffer,
+    world: &World<D>,
+    before: &ReservedFrames,
+)
     requires room { length out.old + 20600 ≤ BUFFER_SIZE }
     ensures text { out.new ≡ out.old ++ shown_tables (taken_below (is_taken_since before.now (shown_of D.shown world.now)) 4096) }
     ensures short { length out.new ≤ length out.old + 20488 }

@@ -6,10 +6,10 @@ ghost use Rattle.iom_script.specs.Lines.{outcome_text};
 ghost use Rattle.iom_trace_lines.specs.TraceLines.{access_text, on_text, SaysLine};
 ghost use Rattle.iom_world.specs.Happens.{Happens};
 ghost use Rattle.iom_world.specs.Shown.{shown_of};
-ghost use Rattle.iom_tell.specs.Told.{AreMarksOf, IsSayableBehind, behind_of, behind_text, is_taken_since, may_take, SaysBehind, taken_below, taken_by, told_line, told_said};
+ghost use Rattle.iom_tell.specs.Told.{AreReservedOf, IsSayableBehind, behind_of, behind_text, is_taken_since, may_take, SaysBehind, taken_below, taken_by, told_line, told_said};
 
 use crate::behind::Behind;
-use crate::marks::FrameMarks;
+use crate::reserved::ReservedFrames;
 use crate::shown::behind_of;
 use crate::tables::append_tables;
 use crate::tell_fault::TellFault;
@@ -31,8 +31,8 @@ fn may_take(event: &Event) -> bool
 }
 
 /// Notes which frames are reserved, where the event may take frames for tables.
-fn note_before<D: Disk>(world: &World<D>, before: &mut FrameMarks, event: &Event)
-    ensures { may_take event.now ≡ true → AreMarksOf before.new (shown_of D.shown world.now) }
+fn note_before<D: Disk>(world: &World<D>, before: &mut ReservedFrames, event: &Event)
+    ensures { may_take event.now ≡ true → AreReservedOf before.new (shown_of D.shown world.now) }
 {
     if !may_take(event) {
         return;
@@ -94,7 +94,7 @@ fn append_began(out: &mut LineBuffer, asks: &Event, on: Option<u32>)
 fn append_behind<D: Disk>(
     out: &mut LineBuffer,
     world: &World<D>,
-    before: &FrameMarks,
+    before: &ReservedFrames,
     behind: &Behind,
 )
     requires sayable { IsSayableBehind behind.now }
@@ -115,7 +115,7 @@ fn append_behind<D: Disk>(
 fn append_told<D: Disk>(
     out: &mut LineBuffer,
     world: &World<D>,
-    before: &FrameMarks,
+    before: &ReservedFrames,
     event: &Event,
     outcome: &Outcome,
     behind: &Behind,
@@ -138,7 +138,7 @@ fn append_outcome<D: Disk>(
     alloc: Global,
     out: &mut LineBuffer,
     world: &World<D>,
-    before: &FrameMarks,
+    before: &ReservedFrames,
     event: &Event,
     outcome: &Outcome,
 ) -> Result<(), TellFault>
@@ -167,7 +167,7 @@ fn append_outcome<D: Disk>(
 pub fn tell_event<D: Disk>(
     alloc: Global,
     world: &mut World<D>,
-    before: &mut FrameMarks,
+    before: &mut ReservedFrames,
     event: &Event,
     out: &mut LineBuffer,
 ) -> (Outcome, Result<(), TellFault>)

@@ -13,7 +13,7 @@ use crate::teller::Teller;
 use iom_line_writer::LineWriter;
 use iom_script::{BUFFER_SIZE, LineBuffer, Script, ScriptLine, WorldSize};
 use iom_settling::{TakesEvents, settle};
-use iom_tell::FrameMarks;
+use iom_tell::ReservedFrames;
 use iom_virtio_blk::Disk;
 use iom_world::World;
 use std::alloc::Global;
@@ -59,10 +59,10 @@ fn buffer_of(alloc: Global, size: WorldSize) -> Result<LineBuffer, TellingFault>
 }
 
 /// A place for which frames are reserved.
-fn marks_of(alloc: Global) -> Result<FrameMarks, TellingFault>
+fn reserved_frames(alloc: Global) -> Result<ReservedFrames, TellingFault>
     ensures fault { IfErr result (λ fault. fault ≡ TellingFault.Memory) }
 {
-    FrameMarks::new(alloc).map_err(|_| TellingFault::Memory)
+    ReservedFrames::new(alloc).map_err(|_| TellingFault::Memory)
 }
 
 /// What the line says happens, and is told.
@@ -139,7 +139,7 @@ fn lines_of<'a, W: Write, D: Disk>(teller: Teller<'a, W, D>) -> LineWriter<'a, W
 fn tell_run<W: Write, D: Disk>(
     alloc: Global,
     world: World<D>,
-    before: FrameMarks,
+    before: ReservedFrames,
     script: &[ScriptLine],
     explains: bool,
     buffer: LineBuffer,
@@ -191,7 +191,7 @@ pub fn tell<W: Write, D: Disk>(
         return Ok(());
     };
     let buffer = buffer_of(alloc, size)?;
-    let before = marks_of(alloc)?;
+    let before = reserved_frames(alloc)?;
     let world = world_of(alloc, size, disks)?;
     tell_run(
         alloc,

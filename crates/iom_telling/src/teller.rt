@@ -15,7 +15,7 @@ use iom_line_writer::{LineWriter, WriteFault};
 use iom_machine::{Event, Fetched, Outcome};
 use iom_script::{BUFFER_SIZE, LineBuffer};
 use iom_settling::{FetchReply, TakesEvents};
-use iom_tell::{FrameMarks, TELL_ROOM, tell_event};
+use iom_tell::{ReservedFrames, TELL_ROOM, tell_event};
 use iom_virtio_blk::Disk;
 use iom_world::World;
 use std::alloc::Global;
@@ -25,7 +25,7 @@ use std::io::Write;
 pub(crate) struct Teller<'a, W, D: Disk> {
     pub(crate) world: World<D>,
     /// A place for which frames were reserved before an event.
-    pub(crate) before: FrameMarks,
+    pub(crate) before: ReservedFrames,
     pub(crate) lines: LineWriter<'a, W>,
     /// What failed.
     pub(crate) fault: Option<TellingFault>,
@@ -67,7 +67,7 @@ fn add_notes<D: Disk>(
 fn tell_in_room<W: Write, D: Disk>(
     alloc: Global,
     world: &mut World<D>,
-    before: &mut FrameMarks,
+    before: &mut ReservedFrames,
     event: &Event,
     lines: &mut LineWriter<'_, W>,
     explains: bool,
@@ -91,7 +91,7 @@ fn tell_in_room<W: Write, D: Disk>(
 fn tell_one<W: Write, D: Disk>(
     alloc: Global,
     world: &mut World<D>,
-    before: &mut FrameMarks,
+    before: &mut ReservedFrames,
     event: &Event,
     lines: &mut LineWriter<'_, W>,
     explains: bool,

@@ -13,7 +13,7 @@ DriverInvariant d = driver.StateInvariant d.ledger d.owners d.devices (length d.
 pub driver_invariant : (own : Driver) → DriverInvariant (state_of own)
 driver_invariant own =
     subst (λ n. driver.StateInvariant own.ledger own.owners own.devices.items n own.levels own.started own.given own.confirmed own.restarts own.restarted)
-    (sym own.invariants.sizes.marked) own.invariants
+    (sym own.invariants.sizes.owned) own.invariants
 
 -- the fence of the next ticket is the next one
 pub next_fence : (d : DriverState) → DriverInvariant d → fence_of d (d.given + 1) ≡ last_fence d + 1

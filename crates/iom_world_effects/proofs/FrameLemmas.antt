@@ -37,7 +37,7 @@ pub get_with_frame_same : (frames : List Frame) (n : ℕ) (change : Frame → Fr
 get_with_frame_same frames n change frame at =
     ap (λ (o : Option Frame). slice_get (option_map_or (λ (f : Frame). slice_set frames n (change f)) o frames) n) at ∙ get_set_same frames n (change frame) (get_within frames n frame at)
 
--- a frame of memory is reserved: its mark is set, and no other frame's bytes change
+-- a frame of memory is reserved: it has an owner, and no other frame's bytes change
 pub shows_reserved : (memory memory' : List (List ℕ)) (marked : List (Option Owner)) (frames : List Frame) (n : ℕ) (owner : Owner)
     → ShowsFrames memory marked frames → n < length memory → length marked ≡ length memory
     → ((k : ℕ) → k ≢ n → slice_get memory' k ≡ slice_get memory k) → length memory' ≡ length memory
@@ -83,7 +83,7 @@ shows_kept memory memory' marked frames shows same size = record {
   bytes = λ k free. shows.bytes k free ∙ sym (same k free);
 }
 
--- a frame is reserved in the machine exactly where it is marked
+-- a frame is reserved in the machine exactly where it has an owner
 pub reserved_shown : (memory : List (List ℕ)) (marked : List (Option Owner)) (frames : List Frame) (n : ℕ) → ShowsFrames memory marked frames → is_reserved frames n ≡ owners.has_owner marked n
 reserved_shown memory marked frames n shows = by (slice_get frames n) (slice_get marked n) (shows.same_owners n)
   where

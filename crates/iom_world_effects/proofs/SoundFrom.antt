@@ -32,7 +32,7 @@ use Rattle.iom_world_effects.proofs.PartsLemmas.{StaysReady}
 use Rattle.iom_world_effects.proofs.SceneSteps.{KeepsGrants, KeepsQueue}
 use Rattle.iom_world_effects.proofs.InvariantLemmas.{same_epochs, traffic_kept, kinds_kept, still_unmarked}
 
--- a frame that isn't marked is nobody's, and none that is somebody's
+-- a frame without an owner is nobody's, and none that is somebody's
 pub unmarked : (owners : List (Option Owner)) (frame : ℕ) → frame < length owners → has_owner owners frame ≡ false → slice_get owners frame ≡ Some None
 unmarked owners frame below none =
     let there = get_there owners frame below in

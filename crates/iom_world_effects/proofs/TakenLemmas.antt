@@ -96,7 +96,7 @@ module _ (d : DriverState) (memory : List (List ℕ)) (id root : ℕ) (mode : Mo
   pub taken_all : All (λ n. (n < length memory) × IsFreeForTable d.owners d.ledger None n) (pages ++ root_frames mode root)
   taken_all = λ k n lt. taken_free (get_or (pages ++ root_frames mode root) k n) (among_get (pages ++ root_frames mode root) k n lt)
 
--- the marks once the pages are the system's and the root the device's
+-- the owners once the pages are the system's and the root the device's
 abbrev pub taken_owners : ℕ → List ℕ → List ℕ → List (Option Owner) → List (Option Owner)
 taken_owners id pages roots owners = owned_by (OneDevice id) roots (owned_by System pages owners)
 

@@ -72,7 +72,7 @@ attached_is (Attached own) stage at = let same : own ≡ stage = cc in ap Attach
 attached_is (Quarantined ticket own) stage at = cc
 attached_is (Leaving ticket own) stage at = cc
 
--- a frame that isn't marked is nobody's
+-- a frame without an owner is nobody's
 pub unmarked : (owners : List (Option Owner)) (n : ℕ) → n < length owners → has_owner owners n ≡ false → slice_get owners n ≡ Some None
 unmarked owners n lt free = by (get_there owners n lt) free
   where

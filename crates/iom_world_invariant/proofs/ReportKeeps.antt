@@ -5,7 +5,7 @@ use Rattle.iom_coherence.specs.Among.{AreAmong}
 use Rattle.iom_driver.specs.Laws.{LeavesCommands}
 use Rattle.iom_driver.specs.Ready.{IsReady}
 use Rattle.iom_driver.specs.Reasons.{why_not_poll}
-use Rattle.iom_driver.specs.Reports.{AnswersFaults, cleared_marks}
+use Rattle.iom_driver.specs.Reports.{AnswersFaults, cleared_flags}
 use Rattle.iom_driver.specs.State.{DriverState}
 use Rattle.iom_fault_queue.specs.Fields.{Fields}
 use Rattle.iom_iommu.specs.Parts.{mmio, registers_of, contexts_of, translations_of, flights_of, fence_snapshot_of, frames_of, slots_of}
@@ -78,7 +78,7 @@ wrote_nothing old new is = subst (WritesReports old) (sym is) (record {
 
 wrote : (d : DriverState) (memory : List (List ℕ)) (old new : Iommu) (answer : Result (Option Fields) Refusal) → AnswersFaults mmio d memory old answer new → WritesReports old new
 wrote d memory old new (Ok (Some fields)) (none, (takes, list)) = wrote_head old new _ takes.1
-wrote d memory old new (Ok None) (none, (empty, is)) = wrote_status old new cleared_marks is
+wrote d memory old new (Ok None) (none, (empty, is)) = wrote_status old new cleared_flags is
 wrote d memory old new (Err why) (refused, is) = wrote_nothing old new is
 
 leaves_taken : (old new : Parts) (reply : Outcome) → is_command_queue_on (registers_of old.iommu) ≡ true → IsReady new.driver new.memory (registers_of new.iommu) → TakesReport old reply new → LeavesReport old new

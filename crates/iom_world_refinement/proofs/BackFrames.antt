@@ -9,11 +9,11 @@ use Rattle.iom_machine.specs.PowerOn.{empty_frame}
 use Rattle.iom_phys_mem.specs.Words.{zeroed}
 use Rattle.iom_world_effects.specs.Frames.{ShowsFrames}
 
--- a mark that is given back is nobody's
+-- a frame that is given back is nobody's
 abbrev pub mark_back : (Option Owner → Bool) → Option Owner → Option Owner
 mark_back left mark = if left mark then None else mark
 
--- frames with these marks are zero now, and all others as they were
+-- frames with these owners are zero now, and all others as they were
 pub record GivesFramesBack (left : Option Owner → Bool) (owners : List (Option Owner)) (memory memory' : List (List ℕ)) : Type 0 where
   pub size : length memory' ≡ length memory
   pub own : (n : ℕ) (mark : Option Owner) → slice_get owners n ≡ Some mark → left mark ≡ true → slice_get memory' n ≡ Some zeroed

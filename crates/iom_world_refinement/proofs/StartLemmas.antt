@@ -92,7 +92,7 @@ set_last_four {X} xs a b n long =
     ∙ ap (λ (zs : List X). set zs (n - 1) b) (set_behind xs (b ∷ b ∷ a ∷ a ∷ []) (n - 2) 2 b (omega arith))
     ∙ set_behind xs (b ∷ b ∷ b ∷ a ∷ []) (n - 1) 3 b (omega arith)
 
--- the last four frames are marked as the system's
+-- the last four frames are the system's
 four_marked : (n : ℕ) → 4 ≤ n
     → set (set (set (set (replicate n None) (n - 4) (Some System)) (n - 3) (Some System)) (n - 2) (Some System)) (n - 1) (Some System) ≡ opening_owners n
 four_marked n le =

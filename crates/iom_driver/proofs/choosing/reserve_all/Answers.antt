@@ -6,6 +6,6 @@ pub loop-frame-preserved : goal.loop-frame-preserved
 loop-frame-preserved c = record {
   owners = grind (arith, common_steps);
   memory = grind (arith, common_steps);
-  marked = search rules;
+  owned = search rules;
   inside = search rules;
 }

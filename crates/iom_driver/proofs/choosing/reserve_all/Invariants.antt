@@ -6,6 +6,6 @@ abbrev pub invariant-loop-frame : goal.invariant-loop-frame
 invariant-loop-frame l = record {
   owners : owned_by l.owner (drop l.frame-index l.frames) l.owners ≡ owned_by l.owner l.frames l.initial.owners;
   memory : cleared (drop l.frame-index l.frames) l.memory ≡ cleared l.frames l.initial.memory;
-  marked : length l.owners ≡ length l.initial.owners;
+  owned : length l.owners ≡ length l.initial.owners;
   inside : length l.memory ≡ length l.initial.memory;
 }

@@ -14,7 +14,7 @@ four mode root limit (inr is) all = subst (λ m. All (λ f. f < limit) (root_fra
 
 pub reserve_four-requires : goal.reserve_four-requires
 reserve_four-requires c = record {
-  marked = four c.args.mode c.args.root (length c.args.owners.now) c.in-Second.is c.requires.marked;
+  owned = four c.args.mode c.args.root (length c.args.owners.now) c.in-Second.is c.requires.owned;
   inside = four c.args.mode c.args.root (length c.args.memory.now) c.in-Second.is c.requires.inside;
   fits = c.requires.fits;
 }

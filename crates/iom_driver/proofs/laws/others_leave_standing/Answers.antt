@@ -8,7 +8,7 @@ use Rattle.iom_driver.proofs.laws.others_leave_standing.Goals as goal
 
 pub returns-clause-others : goal.returns-clause-others
 returns-clause-others c = λ driver old new stand keeps.
-    let many : length old ≡ driver.frames = stand.size ∙ driver.invariants.sizes.marked in
+    let many : length old ≡ driver.frames = stand.size ∙ driver.invariants.sizes.owned in
     let fixed = subst (λ n. AreFixed driver.owners n) (sym many) driver.invariants.fixed in
     leaves_standing (state_of driver) (state_of driver) (length old) old new refl stand.tables
     (λ id stage was is. frames_keep old new driver.owners driver.ledger id stage.mode stage.root (stand.tables id stage was)
@@ -20,7 +20,7 @@ returns-clause-others c = λ driver old new stand keeps.
 
 pub returns-clause-records : goal.returns-clause-records
 returns-clause-records c = λ driver old new r s stand leaves.
-    let many : length old ≡ driver.frames = stand.size ∙ driver.invariants.sizes.marked in
+    let many : length old ≡ driver.frames = stand.size ∙ driver.invariants.sizes.owned in
     let fixed = subst (λ n. AreFixed driver.owners n) (sym many) driver.invariants.fixed in
     leaves_standing (state_of driver) (state_of driver) (length old) old new refl stand.tables
     (λ id stage was is. frames_keep old new driver.owners driver.ledger id stage.mode stage.root (stand.tables id stage was)

@@ -6,5 +6,5 @@ use Rattle.iom_driver.proofs.laws.ready_after_record.Goals as goal
 
 pub returns : goal.returns
 returns c = λ driver old new r s fields answer ready runs puts.
-    let many : length old ≡ driver.frames = ready.stand.size ∙ driver.invariants.sizes.marked in
+    let many : length old ≡ driver.frames = ready.stand.size ∙ driver.invariants.sizes.owned in
     ready_reported (state_of driver) old new r s fields answer (subst (λ n. AreFixed driver.owners n) (sym many) driver.invariants.fixed) driver.invariants.sizes.in_range runs ready puts

@@ -34,7 +34,7 @@ returns-in_default-clause-effect c =
     let d = state_of driver in
     let memory = c.args.memory.now in
     let id = c.args.id in
-    let many : driver.frames ≡ length memory = sym (c.requires.stand.size ∙ driver.invariants.sizes.marked) in
+    let many : driver.frames ≡ length memory = sym (c.requires.stand.size ∙ driver.invariants.sizes.owned) in
     let at_root : c.directory_frame-directory.result ≡ directory_frame (length memory) = c.directory_frame-directory.ensures ∙ ap directory_frame many in
     let too_few = lacks d memory id c.args.mode driver.frames c.missing-lacking.result many
     (c.missing-lacking.ensures ∙ ap (λ r. missing_pages memory (root_level driver.levels) r id) at_root) c.in_default.ensures.none in

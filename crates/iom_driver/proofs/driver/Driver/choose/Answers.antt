@@ -6,7 +6,7 @@ pub highest_free-requires : goal.highest_free-requires
 highest_free-requires c =
     let driver = c.args.self.now in
     let low = chosen_low driver.owners driver.ledger c.args.named driver.frames c.args.count c.loop.limit c.loop.counter c.loop.chosen.items c.loop.invariant.so_far in
-    omega (arith, low, driver.invariants.sizes.marked)
+    omega (arith, low, driver.invariants.sizes.owned)
 
 pub push-requires : goal.push-requires
 push-requires c =

@@ -7,7 +7,7 @@ use Rattle.iom_table_frames.proofs.CountLemmas.{AreSoMany-same}
 use Rattle.iom_driver.proofs.driver.Driver.count_free.Goals as goal
 
 pub count_free-requires : goal.count_free-requires
-count_free-requires c = let sizes = c.args.self.now.invariants.sizes in omega (arith, sizes.marked)
+count_free-requires c = let sizes = c.args.self.now.invariants.sizes in omega (arith, sizes.owned)
 
 pub returns : goal.returns
 returns c =

@@ -62,17 +62,17 @@ clear_context-requires-clause-directory g c =
     let driver = c.args.self.now in
     let stand = c.requires.ready.stand in
     rw c.directory_frame-directory.ensures
-    (in_stands driver.frames c.args.memory.now driver.owners driver.devices.items driver.levels (stand.size ∙ driver.invariants.sizes.marked) (stand.directory c.in-Ok.ensures.may.started)).tree
+    (in_stands driver.frames c.args.memory.now driver.owners driver.devices.items driver.levels (stand.size ∙ driver.invariants.sizes.owned) (stand.directory c.in-Ok.ensures.may.started)).tree
 
 pub append_detach-requires-clause-frames : goal.append_detach-requires-clause-frames
-append_detach-requires-clause-frames g c = c.clear_context.ensures.size ∙ c.requires.ready.stand.size ∙ c.args.self.now.invariants.sizes.marked
+append_detach-requires-clause-frames g c = c.clear_context.ensures.size ∙ c.requires.ready.stand.size ∙ c.args.self.now.invariants.sizes.owned
 
 pub append_detach-requires-clause-many : goal.append_detach-requires-clause-many
 append_detach-requires-clause-many g c = c.args.self.now.invariants.sizes.size.0
 
 pub append_detach-requires-clause-ring : goal.append_detach-requires-clause-ring
 append_detach-requires-clause-ring g c =
-    subst (λ n. IsRing n (g.M.Mmio.registers c.args.io.now)) (c.requires.ready.stand.size ∙ c.args.self.now.invariants.sizes.marked) (c.requires.ready.ring c.in-Ok.ensures.may.started)
+    subst (λ n. IsRing n (g.M.Mmio.registers c.args.io.now)) (c.requires.ready.stand.size ∙ c.args.self.now.invariants.sizes.owned) (c.requires.ready.ring c.in-Ok.ensures.may.started)
 
 pub append_detach-requires-clause-room : goal.append_detach-requires-clause-room
 append_detach-requires-clause-room g c = c.in-Ok.ensures.may.room
@@ -96,7 +96,7 @@ append_detach-requires-clause-quarantined g c =
     let stage = c.in-Ok.stage in
     let stand = c.requires.ready.stand in
     let may = c.in-Ok.ensures.may in
-    let here = in_stands driver.frames memory driver.owners driver.devices.items driver.levels (stand.size ∙ driver.invariants.sizes.marked) (stand.directory may.started) in
+    let here = in_stands driver.frames memory driver.owners driver.devices.items driver.levels (stand.size ∙ driver.invariants.sizes.owned) (stand.directory may.started) in
     let cleared = subst (λ r. IsCleared memory c.clear_context.new.memory driver.levels r c.args.id) c.directory_frame-directory.ensures record {
       tree = c.clear_context.ensures.directory;
       pages = λ f. (c.clear_context.ensures.pages f).0;
@@ -121,7 +121,7 @@ returns-clause-effect g c =
     let stand = c.requires.ready.stand in
     let may = c.in-Ok.ensures.may in
     let io = c.args.io.now in
-    let many : length memory ≡ driver.frames = stand.size ∙ driver.invariants.sizes.marked in
+    let many : length memory ≡ driver.frames = stand.size ∙ driver.invariants.sizes.owned in
     let here : DirectoryIn driver.frames memory driver.owners driver.devices.items driver.levels = in_stands driver.frames memory driver.owners driver.devices.items driver.levels many (stand.directory may.started) in
     let cleared = subst (λ r. IsCleared memory c.clear_context.new.memory driver.levels r c.args.id) c.directory_frame-directory.ensures record {
       tree = c.clear_context.ensures.directory;
@@ -174,7 +174,7 @@ returns-clause-ready g c =
     let stand = c.requires.ready.stand in
     let may = c.in-Ok.ensures.may in
     let devices = with_attachment driver.devices.items c.args.id (Leaving (driver.given + 1) c.in-Ok.stage) in
-    let many : length memory ≡ driver.frames = stand.size ∙ driver.invariants.sizes.marked in
+    let many : length memory ≡ driver.frames = stand.size ∙ driver.invariants.sizes.owned in
     let size : length c.append_detach.new.memory ≡ length memory = c.append_detach.ensures.size ∙ c.clear_context.ensures.size in
     let here : DirectoryIn driver.frames memory driver.owners driver.devices.items driver.levels = in_stands driver.frames memory driver.owners driver.devices.items driver.levels many (stand.directory may.started) in
     let cleared = subst (λ r. IsCleared memory c.clear_context.new.memory driver.levels r c.args.id) c.directory_frame-directory.ensures record {

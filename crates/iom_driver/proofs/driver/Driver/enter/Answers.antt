@@ -41,7 +41,7 @@ found : (driver : Driver) (memory : List (List ℕ)) (id : ℕ) (stages : Stages
 found driver memory id stages pages stand may =
     may_take (state_of driver) driver.frames memory (lacking driver memory id) stages.mode stages.root pages driver.invariants stand may.admitted.started may.chosen may.root
 
--- the frames that are cleared, and marked: the pages, and then the root's
+-- the frames that are cleared, and owned: the pages, and then the root's
 both_cleared : (memory before after : List (List ℕ)) (pages roots : List ℕ) → before ≡ cleared pages memory → after ≡ cleared roots before → after ≡ cleared (pages ++ roots) memory
 both_cleared memory before after pages roots is zero_is = zero_is ∙ ap (λ m. cleared roots m) is ∙ sym (cleared_append pages roots memory)
 
@@ -62,7 +62,7 @@ reserve_all-requires c =
     let pages = c.args.pages.now in
     let may = found driver c.args.memory.now c.args.id c.args.stages pages c.requires.stand c.requires.may in
     record {
-      marked = λ k d lt. subst (λ n. get_or pages k d < n) (sym driver.invariants.sizes.marked) (may.taken.chosen.inside k d lt);
+      owned = λ k d lt. subst (λ n. get_or pages k d < n) (sym driver.invariants.sizes.owned) (may.taken.chosen.inside k d lt);
       inside = λ k d lt. subst (λ n. get_or pages k d < n) (sym may.size) (may.taken.chosen.inside k d lt);
     }
 
@@ -74,12 +74,12 @@ reserve_root-requires c =
     let stages = c.args.stages in
     let roots = root_frames stages.mode stages.root in
     let may = found driver memory c.args.id stages pages c.requires.stand c.requires.may in
-    let marks_long = ap (λ (ms : List (Option Owner)). length ms) c.reserve_all.ensures.owners ∙ length-owned_by System pages driver.owners ∙ driver.invariants.sizes.marked in
+    let marks_long = ap (λ (ms : List (Option Owner)). length ms) c.reserve_all.ensures.owners ∙ length-owned_by System pages driver.owners ∙ driver.invariants.sizes.owned in
     let memory_long = ap (λ (m : List (List ℕ)). length m) c.reserve_all.ensures.memory ∙ length-cleared pages memory ∙ may.size in
     let inside : stages.root < driver.frames = may.taken.inside stages.root (root_among stages.mode stages.root) in
     let most : driver.frames ≤ 4096 = driver.invariants.sizes.size.1 in
     record {
-      marked = all_among (λ f. f < length c.reserve_all.new.owners) roots (λ f here. subst (λ n. f < n) (sym marks_long) (may.taken.inside f here));
+      owned = all_among (λ f. f < length c.reserve_all.new.owners) roots (λ f here. subst (λ n. f < n) (sym marks_long) (may.taken.inside f here));
       inside = all_among (λ f. f < length c.reserve_all.new.memory) roots (λ f here. subst (λ n. f < n) (sym memory_long) (may.taken.inside f here));
       fits = omega (arith, inside, most);
     }

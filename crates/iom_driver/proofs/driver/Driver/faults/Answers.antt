@@ -1,7 +1,7 @@
 use Rattle.std.proofs.Common.{◌≡◌, ◌∙◌, true, refl, ap}
 use Rattle.iom_registers.specs.declared.register.Register.TheVariants.{Fqh, Fqcsr}
 use Rattle.iom_registers.specs.Queues.{fault_entries, fault_head, next_index}
-use Rattle.iom_driver.specs.Reports.{cleared_marks}
+use Rattle.iom_driver.specs.Reports.{cleared_flags}
 use Rattle.iom_driver.specs.StateOf.{state_of}
 use Rattle.iom_driver.proofs.Taking.{takes_report, ready_taken, none_waits, ready_cleared}
 use Rattle.iom_driver.proofs.driver.Driver.faults.Goals as goal
@@ -12,7 +12,7 @@ returns-in_default-clause-effect g c =
       rw runs refl,
       (
         none_waits c.args.memory.now (g.M.Mmio.registers c.args.io.now) c.in_default.ensures.effect.0,
-        c.write.ensures ∙ ap (λ x. g.M.Mmio.after x Fqcsr cleared_marks) c.in_default.ensures.effect.1,
+        c.write.ensures ∙ ap (λ x. g.M.Mmio.after x Fqcsr cleared_flags) c.in_default.ensures.effect.1,
       ),
     )
 
@@ -20,7 +20,7 @@ pub returns-in_default-clause-ready : goal.returns-in_default-clause-ready
 returns-in_default-clause-ready g c =
     let r = g.M.Mmio.registers in
     ready_cleared (state_of c.args.self.now) c.args.memory.now (r c.args.io.now) (r c.write.new.io) c.requires.ready c.if-not-self.false
-    (ap r (c.write.ensures ∙ ap (λ x. g.M.Mmio.after x Fqcsr cleared_marks) c.in_default.ensures.effect.1) ∙ g.met.M.Mmio.writes_registers c.args.io.now Fqcsr cleared_marks)
+    (ap r (c.write.ensures ∙ ap (λ x. g.M.Mmio.after x Fqcsr cleared_flags) c.in_default.ensures.effect.1) ∙ g.met.M.Mmio.writes_registers c.args.io.now Fqcsr cleared_flags)
 
 pub returns-clause-effect : goal.returns-clause-effect
 returns-clause-effect g c =

@@ -104,7 +104,7 @@ returns-in_default c =
     let driver = c.args.self.now in
     let d = state_of driver in
     let memory = c.args.memory.now in
-    let many : driver.frames ≡ length memory = sym (c.requires.stand.size ∙ driver.invariants.sizes.marked) in
+    let many : driver.frames ≡ length memory = sym (c.requires.stand.size ∙ driver.invariants.sizes.owned) in
     let counted = c.missing-lacking.ensures ∙ ap (λ s. missing_for s memory c.in-Ok.stage.root c.args.mapping.page) c.size-size.ensures in
     let without = no_frames d memory c.args.id c.args.mapping.page c.args.mapping.frame c.in-Ok.stage driver.frames c.missing-lacking.result c.in-Ok.ensures.may.attached many counted c.in_default.ensures.none in
     record {
@@ -135,8 +135,8 @@ reserve_all-requires c =
     let are : AreChosen driver.owners driver.ledger (Some c.args.mapping.frame) driver.frames c.missing-lacking.result chosen =
     are_chosen driver.owners driver.ledger (Some c.args.mapping.frame) driver.frames c.missing-lacking.result chosen c.in-Some.ensures.chosen in
     rw c.as_slice.ensures.value record {
-      marked = λ k d lt. subst (λ n. get_or chosen k d < n) (sym driver.invariants.sizes.marked) (are.inside k d lt);
-      inside = λ k d lt. subst (λ n. get_or chosen k d < n) (sym (c.requires.stand.size ∙ driver.invariants.sizes.marked)) (are.inside k d lt);
+      owned = λ k d lt. subst (λ n. get_or chosen k d < n) (sym driver.invariants.sizes.owned) (are.inside k d lt);
+      inside = λ k d lt. subst (λ n. get_or chosen k d < n) (sym (c.requires.stand.size ∙ driver.invariants.sizes.owned)) (are.inside k d lt);
     }
 
 pub map-requires-clause-page : goal.map-requires-clause-page
@@ -161,7 +161,7 @@ returns-then-is_err-clause-effect c =
     let memory = c.args.memory.now in
     let failed = sym c.is_err.ensures.value ∙ c.if-is_err.true in
     let unchanged : IsUnchanged driver.ledger c.grant.new.self = err_then c.grant.result failed c.grant.ensures.refused in
-    let many = sym (c.requires.stand.size ∙ driver.invariants.sizes.marked) in
+    let many = sym (c.requires.stand.size ∙ driver.invariants.sizes.owned) in
     let chosen : AreHighestFree driver.owners driver.ledger (Some c.args.mapping.frame) (length memory) (missing_for (size_in c.in-Ok.stage.mode) memory c.in-Ok.stage.root c.args.mapping.page) c.in-Some.tables.items =
     subst (λ n. AreHighestFree driver.owners driver.ledger (Some c.args.mapping.frame) (length memory) n c.in-Some.tables.items)
     (c.missing-lacking.ensures ∙ ap (λ s. missing_for s memory c.in-Ok.stage.root c.args.mapping.page) c.size-size.ensures)
@@ -182,7 +182,7 @@ invariant_of-self-2 c =
     let may = c.in-Ok.ensures.may in
     let granted = ok_then c.grant.result (sym c.is_err.ensures.value ∙ c.if-is_err.false) c.grant.ensures.granted in
     let chose = are_chosen driver.owners driver.ledger (Some c.args.mapping.frame) (length driver.owners) c.missing-lacking.result tables
-    (subst (λ n. AreHighestFree driver.owners driver.ledger (Some c.args.mapping.frame) n c.missing-lacking.result tables) (sym driver.invariants.sizes.marked) c.in-Some.ensures.chosen) in
+    (subst (λ n. AreHighestFree driver.owners driver.ledger (Some c.args.mapping.frame) n c.missing-lacking.result tables) (sym driver.invariants.sizes.owned) c.in-Some.ensures.chosen) in
     record {
       invariants =
           subst (λ (ms : List (Option Owner)). StateInvariant c.grant.new.self ms driver.devices.items driver.frames driver.levels driver.started driver.given driver.confirmed driver.restarts driver.restarted)
@@ -194,7 +194,7 @@ invariant_of-self-2 c =
 pub map-requires-clause-tree : goal.map-requires-clause-tree
 map-requires-clause-tree c =
     let driver = c.args.self.now in
-    let many = sym (c.requires.stand.size ∙ driver.invariants.sizes.marked) in
+    let many = sym (c.requires.stand.size ∙ driver.invariants.sizes.owned) in
     let may = may_be_mapped c.args.memory.now driver.owners driver.ledger c.args.id c.in-Ok.stage.mode c.in-Ok.stage.root c.args.mapping.page c.args.mapping.frame c.missing-lacking.result c.in-Some.tables.items
     (c.requires.stand.tables c.args.id c.in-Ok.stage (attached_owns (attachment_by_id driver.devices.items c.args.id) c.in-Ok.stage c.in-Ok.ensures.may.attached)) c.in-Ok.ensures.may.page_low c.in-Ok.ensures.may.not_held
     (c.missing-lacking.ensures ∙ ap (λ s. missing_for s c.args.memory.now c.in-Ok.stage.root c.args.mapping.page) c.size-size.ensures)
@@ -204,7 +204,7 @@ map-requires-clause-tree c =
 pub map-requires-clause-free : goal.map-requires-clause-free
 map-requires-clause-free c =
     let driver = c.args.self.now in
-    let many = sym (c.requires.stand.size ∙ driver.invariants.sizes.marked) in
+    let many = sym (c.requires.stand.size ∙ driver.invariants.sizes.owned) in
     let may = may_be_mapped c.args.memory.now driver.owners driver.ledger c.args.id c.in-Ok.stage.mode c.in-Ok.stage.root c.args.mapping.page c.args.mapping.frame c.missing-lacking.result c.in-Some.tables.items
     (c.requires.stand.tables c.args.id c.in-Ok.stage (attached_owns (attachment_by_id driver.devices.items c.args.id) c.in-Ok.stage c.in-Ok.ensures.may.attached)) c.in-Ok.ensures.may.page_low c.in-Ok.ensures.may.not_held
     (c.missing-lacking.ensures ∙ ap (λ s. missing_for s c.args.memory.now c.in-Ok.stage.root c.args.mapping.page) c.size-size.ensures)
@@ -214,7 +214,7 @@ map-requires-clause-free c =
 pub map-requires-clause-count : goal.map-requires-clause-count
 map-requires-clause-count c =
     let driver = c.args.self.now in
-    let many = sym (c.requires.stand.size ∙ driver.invariants.sizes.marked) in
+    let many = sym (c.requires.stand.size ∙ driver.invariants.sizes.owned) in
     let may = may_be_mapped c.args.memory.now driver.owners driver.ledger c.args.id c.in-Ok.stage.mode c.in-Ok.stage.root c.args.mapping.page c.args.mapping.frame c.missing-lacking.result c.in-Some.tables.items
     (c.requires.stand.tables c.args.id c.in-Ok.stage (attached_owns (attachment_by_id driver.devices.items c.args.id) c.in-Ok.stage c.in-Ok.ensures.may.attached)) c.in-Ok.ensures.may.page_low c.in-Ok.ensures.may.not_held
     (c.missing-lacking.ensures ∙ ap (λ s. missing_for s c.args.memory.now c.in-Ok.stage.root c.args.mapping.page) c.size-size.ensures)
@@ -224,7 +224,7 @@ map-requires-clause-count c =
 pub map-requires-clause-fresh : goal.map-requires-clause-fresh
 map-requires-clause-fresh c =
     let driver = c.args.self.now in
-    let many = sym (c.requires.stand.size ∙ driver.invariants.sizes.marked) in
+    let many = sym (c.requires.stand.size ∙ driver.invariants.sizes.owned) in
     let may = may_be_mapped c.args.memory.now driver.owners driver.ledger c.args.id c.in-Ok.stage.mode c.in-Ok.stage.root c.args.mapping.page c.args.mapping.frame c.missing-lacking.result c.in-Some.tables.items
     (c.requires.stand.tables c.args.id c.in-Ok.stage (attached_owns (attachment_by_id driver.devices.items c.args.id) c.in-Ok.stage c.in-Ok.ensures.may.attached)) c.in-Ok.ensures.may.page_low c.in-Ok.ensures.may.not_held
     (c.missing-lacking.ensures ∙ ap (λ s. missing_for s c.args.memory.now c.in-Ok.stage.root c.args.mapping.page) c.size-size.ensures)
@@ -241,7 +241,7 @@ returns-clause-effect c =
     let root = c.in-Ok.stage.root in
     let granted = ok_then c.grant.result (sym c.is_err.ensures.value ∙ c.if-is_err.false) c.grant.ensures.granted in
     let agrees = ok_then c.grant.result (sym c.is_err.ensures.value ∙ c.if-is_err.false) c.grant.ensures.agrees in
-    let many = sym (c.requires.stand.size ∙ driver.invariants.sizes.marked) in (
+    let many = sym (c.requires.stand.size ∙ driver.invariants.sizes.owned) in (
       c.in-Ok.ensures.admitted,
       record {
         stage = c.in-Ok.stage;
@@ -328,7 +328,7 @@ returns-clause-stand c =
       long = c.map.ensures.size;
     } in
     let granted = ok_then c.grant.result (sym c.is_err.ensures.value ∙ c.if-is_err.false) c.grant.ensures.granted in
-    let many = sym (c.requires.stand.size ∙ driver.invariants.sizes.marked) in
+    let many = sym (c.requires.stand.size ∙ driver.invariants.sizes.owned) in
     let chose = chosen_below driver.owners driver.ledger c.args.mapping.frame driver.frames c.missing-lacking.result tables memory many c.in-Some.ensures.chosen in
     let owners = c.reserve_all.ensures.owners ∙ ap (λ fs. owned_by (OneDevice c.args.id) fs driver.owners) c.as_slice.ensures.value in
     record {
@@ -360,7 +360,7 @@ returns-clause-ready c = λ r ready.
     let memory = c.args.memory.now in
     let tables = c.in-Some.tables.items in
     let size = c.map.ensures.size ∙ ap (λ (m : List (List ℕ)). length m) c.reserve_all.ensures.memory ∙ length-cleared c.as_slice.result.now memory in
-    let many : length memory ≡ driver.frames = c.requires.stand.size ∙ driver.invariants.sizes.marked in
+    let many : length memory ≡ driver.frames = c.requires.stand.size ∙ driver.invariants.sizes.owned in
     let system : slice_get driver.owners (fault_frame (length memory)) ≡ Some (Some System) = ap (λ n. slice_get driver.owners (fault_frame n)) many ∙ driver.invariants.fixed.fault in
     let chose = chosen_below driver.owners driver.ledger c.args.mapping.frame driver.frames c.missing-lacking.result tables memory (sym many) c.in-Some.ensures.chosen in
     let owners = c.reserve_all.ensures.owners ∙ ap (λ fs. owned_by (OneDevice c.args.id) fs driver.owners) c.as_slice.ensures.value in

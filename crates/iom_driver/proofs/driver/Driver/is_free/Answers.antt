@@ -5,7 +5,7 @@ pub returns : goal.returns
 returns c =
     let driver = c.args.self.now in (
       (λ true. record {
-        inside = subst (λ n. c.args.frame < n) (sym driver.invariants.sizes.marked) (omega arith);
+        inside = subst (λ n. c.args.frame < n) (sym driver.invariants.sizes.owned) (omega arith);
         unreserved = sym c.is_reserved.ensures ∙ c.if-is_reserved.false;
         ungranted = c.is_free.ensures.shown.0 true;
       }),

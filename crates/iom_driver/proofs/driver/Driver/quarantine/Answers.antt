@@ -53,7 +53,7 @@ clear_context-requires-clause-directory g c =
     let driver = c.args.self.now in
     let stand = c.requires.ready.stand in
     rw c.directory_frame-directory.ensures
-    (in_stands driver.frames c.args.memory.now driver.owners driver.devices.items driver.levels (stand.size ∙ driver.invariants.sizes.marked) (stand.directory c.in-Ok.ensures.may.started)).tree
+    (in_stands driver.frames c.args.memory.now driver.owners driver.devices.items driver.levels (stand.size ∙ driver.invariants.sizes.owned) (stand.directory c.in-Ok.ensures.may.started)).tree
 
 pub clear_leaves-requires-clause-tree : goal.clear_leaves-requires-clause-tree
 clear_leaves-requires-clause-tree g c =
@@ -62,7 +62,7 @@ clear_leaves-requires-clause-tree g c =
     let stand = c.requires.ready.stand in
     let may = c.in-Ok.ensures.may in
     let here : DirectoryIn driver.frames memory driver.owners driver.devices.items driver.levels =
-    in_stands driver.frames memory driver.owners driver.devices.items driver.levels (stand.size ∙ driver.invariants.sizes.marked) (stand.directory may.started) in
+    in_stands driver.frames memory driver.owners driver.devices.items driver.levels (stand.size ∙ driver.invariants.sizes.owned) (stand.directory may.started) in
     let cleared = subst (λ r. IsCleared memory c.clear_context.new.memory driver.levels r c.args.id) c.directory_frame-directory.ensures record {
       tree = c.clear_context.ensures.directory;
       pages = λ f. (c.clear_context.ensures.pages f).0;
@@ -103,14 +103,14 @@ invariant_of-self g c =
     }
 
 pub append_detach-requires-clause-frames : goal.append_detach-requires-clause-frames
-append_detach-requires-clause-frames g c = c.clear_leaves.ensures.size ∙ c.clear_context.ensures.size ∙ c.requires.ready.stand.size ∙ c.args.self.now.invariants.sizes.marked
+append_detach-requires-clause-frames g c = c.clear_leaves.ensures.size ∙ c.clear_context.ensures.size ∙ c.requires.ready.stand.size ∙ c.args.self.now.invariants.sizes.owned
 
 pub append_detach-requires-clause-many : goal.append_detach-requires-clause-many
 append_detach-requires-clause-many g c = c.args.self.now.invariants.sizes.size.0
 
 pub append_detach-requires-clause-ring : goal.append_detach-requires-clause-ring
 append_detach-requires-clause-ring g c =
-    subst (λ n. IsRing n (g.M.Mmio.registers c.args.io.now)) (c.requires.ready.stand.size ∙ c.args.self.now.invariants.sizes.marked) (c.requires.ready.ring c.in-Ok.ensures.may.started)
+    subst (λ n. IsRing n (g.M.Mmio.registers c.args.io.now)) (c.requires.ready.stand.size ∙ c.args.self.now.invariants.sizes.owned) (c.requires.ready.ring c.in-Ok.ensures.may.started)
 
 pub append_detach-requires-clause-room : goal.append_detach-requires-clause-room
 append_detach-requires-clause-room g c = c.in-Ok.ensures.may.room
@@ -139,7 +139,7 @@ append_detach-requires-clause-quarantined g c =
     let bare = c.clear_leaves.new.memory in
     let ledger = c.release_all.new.self in
     let owns = attached_owns (attachment_by_id driver.devices.items id) stage may.attached in
-    let here = in_stands driver.frames memory driver.owners driver.devices.items driver.levels (stand.size ∙ driver.invariants.sizes.marked) (stand.directory may.started) in
+    let here = in_stands driver.frames memory driver.owners driver.devices.items driver.levels (stand.size ∙ driver.invariants.sizes.owned) (stand.directory may.started) in
     let cleared = subst (λ r. IsCleared memory between driver.levels r id) c.directory_frame-directory.ensures record {
       tree = c.clear_context.ensures.directory;
       pages = λ f. (c.clear_context.ensures.pages f).0;
@@ -180,7 +180,7 @@ returns-clause-effect g c =
     let bare = c.clear_leaves.new.memory in
     let new = c.append_detach.new.memory in
     let owns = attached_owns (attachment_by_id driver.devices.items id) stage may.attached in
-    let many : length memory ≡ driver.frames = stand.size ∙ driver.invariants.sizes.marked in
+    let many : length memory ≡ driver.frames = stand.size ∙ driver.invariants.sizes.owned in
     let here : DirectoryIn driver.frames memory driver.owners driver.devices.items driver.levels = in_stands driver.frames memory driver.owners driver.devices.items driver.levels many (stand.directory may.started) in
     let cleared = subst (λ r. IsCleared memory between driver.levels r id) c.directory_frame-directory.ensures record {
       tree = c.clear_context.ensures.directory;
@@ -277,7 +277,7 @@ returns-clause-ready g c =
     let ticket = driver.given + 1 in
     let devices = with_attachment driver.devices.items id (Quarantined ticket stage) in
     let owns = attached_owns (attachment_by_id driver.devices.items id) stage may.attached in
-    let many : length memory ≡ driver.frames = stand.size ∙ driver.invariants.sizes.marked in
+    let many : length memory ≡ driver.frames = stand.size ∙ driver.invariants.sizes.owned in
     let here : DirectoryIn driver.frames memory driver.owners driver.devices.items driver.levels = in_stands driver.frames memory driver.owners driver.devices.items driver.levels many (stand.directory may.started) in
     let cleared = subst (λ r. IsCleared memory between driver.levels r id) c.directory_frame-directory.ensures record {
       tree = c.clear_context.ensures.directory;

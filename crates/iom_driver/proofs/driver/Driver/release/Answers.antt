@@ -77,14 +77,14 @@ unmap-requires-clause-page g c =
     rw c.size.ensures (held_low c.args.memory.now driver.owners driver.ledger c.args.id c.in-Ok.stage.mode c.in-Ok.stage.root c.args.page tables c.in-Ok.ensures.may.held)
 
 pub append_release-requires-clause-frames : goal.append_release-requires-clause-frames
-append_release-requires-clause-frames g c = c.unmap.ensures.size ∙ c.requires.ready.stand.size ∙ c.args.self.now.invariants.sizes.marked
+append_release-requires-clause-frames g c = c.unmap.ensures.size ∙ c.requires.ready.stand.size ∙ c.args.self.now.invariants.sizes.owned
 
 pub append_release-requires-clause-many : goal.append_release-requires-clause-many
 append_release-requires-clause-many g c = c.args.self.now.invariants.sizes.size.0
 
 pub append_release-requires-clause-ring : goal.append_release-requires-clause-ring
 append_release-requires-clause-ring g c =
-    subst (λ n. IsRing n (g.M.Mmio.registers c.args.io.now)) (c.requires.ready.stand.size ∙ c.args.self.now.invariants.sizes.marked) (c.requires.ready.ring c.in-Ok.ensures.may.started)
+    subst (λ n. IsRing n (g.M.Mmio.registers c.args.io.now)) (c.requires.ready.stand.size ∙ c.args.self.now.invariants.sizes.owned) (c.requires.ready.ring c.in-Ok.ensures.may.started)
 
 pub append_release-requires-clause-room : goal.append_release-requires-clause-room
 append_release-requires-clause-room g c = c.in-Ok.ensures.may.room
@@ -127,7 +127,7 @@ returns-clause-effect g c =
       keeps = c.unmap.ensures.keeps;
       long = c.unmap.ensures.size;
     } in
-    let many : length memory ≡ driver.frames = stand.size ∙ driver.invariants.sizes.marked in
+    let many : length memory ≡ driver.frames = stand.size ∙ driver.invariants.sizes.owned in
     let commands = release_commands c.args.id c.in-Ok.stage c.args.page (completion_address driver.frames) (driver.given + driver.restarts + 1) in
     let appended = subst (λ n. AppendsAll g.M.Mmio c.unmap.new.memory c.args.io.now (release_commands c.args.id c.in-Ok.stage c.args.page (completion_address driver.frames) (n + 1)) c.append_release.new.memory c.append_release.new.io)
     c.last_fence-number.ensures c.append_release.ensures.appended in
@@ -195,7 +195,7 @@ returns-clause-ready g c =
     let tables = tables_released c.args.memory.now c.unmap.new.memory driver.owners driver.ledger c.release.new.self driver.devices.items c.args.id c.args.page (driver.given + 1) c.in-Ok.stage
     stand.tables (attached_owns (attachment_by_id driver.devices.items c.args.id) c.in-Ok.stage c.in-Ok.ensures.may.attached) unmapped_so c.release.ensures.released in
     let before = stand.tables c.args.id c.in-Ok.stage (attached_owns (attachment_by_id driver.devices.items c.args.id) c.in-Ok.stage c.in-Ok.ensures.may.attached) in
-    let many : length c.args.memory.now ≡ driver.frames = stand.size ∙ driver.invariants.sizes.marked in
+    let many : length c.args.memory.now ≡ driver.frames = stand.size ∙ driver.invariants.sizes.owned in
     let size : length c.append_release.new.memory ≡ length c.args.memory.now = c.append_release.ensures.size ∙ c.unmap.ensures.size in
     record {
       stand = record {
@@ -222,5 +222,5 @@ returns-clause-ready g c =
           ∙ other_frame (size_in c.in-Ok.stage.mode) c.args.memory.now c.unmap.new.memory c.in-Ok.stage.root c.args.page fault unmapped_so
           (λ at. not_of_device driver.owners fault c.args.id system (before.own fault (table_in c.in-Ok.stage.mode c.args.memory.now c.in-Ok.stage.root fault (inl at)))))
           c.append_release.ensures.faults (c.requires.ready.faults started);
-      ring = λ started. subst (λ n. IsRing n (g.M.Mmio.registers c.append_release.new.io)) (sym (size ∙ stand.size ∙ driver.invariants.sizes.marked)) c.append_release.ensures.ring;
+      ring = λ started. subst (λ n. IsRing n (g.M.Mmio.registers c.append_release.new.io)) (sym (size ∙ stand.size ∙ driver.invariants.sizes.owned)) c.append_release.ensures.ring;
     }

@@ -49,7 +49,7 @@ returns-then-last_fence-eq4294967295 g c =
 pub append_devices-requires : goal.append_devices-requires
 append_devices-requires g c =
     let driver = c.args.self.now in
-    let many : length c.args.memory.now ≡ driver.frames = c.requires.ready.stand.size ∙ driver.invariants.sizes.marked in
+    let many : length c.args.memory.now ≡ driver.frames = c.requires.ready.stand.size ∙ driver.invariants.sizes.owned in
     let least : 64 ≤ driver.frames = driver.invariants.sizes.size.0 in
     record {
       many = omega (arith, many, least);
@@ -64,7 +64,7 @@ append_devices-requires g c =
 pub append_fence-requires : goal.append_fence-requires
 append_fence-requires g c =
     let driver = c.args.self.now in
-    let many : length c.args.memory.now ≡ driver.frames = c.requires.ready.stand.size ∙ driver.invariants.sizes.marked in
+    let many : length c.args.memory.now ≡ driver.frames = c.requires.ready.stand.size ∙ driver.invariants.sizes.owned in
     let count : how_many (g.M.Mmio.registers c.append_devices.new.io) ≤ 48 = c.append_devices.ensures.count in
     record {
       frames = c.append_devices.ensures.size ∙ many;
@@ -88,7 +88,7 @@ returns-clause-effect g c =
     let d = state_of driver in
     let memory = c.args.memory.now in
     let stand = c.requires.ready.stand in
-    let many : length memory ≡ driver.frames = stand.size ∙ driver.invariants.sizes.marked in
+    let many : length memory ≡ driver.frames = stand.size ∙ driver.invariants.sizes.owned in
     let kept : (f : ℕ) → f ≢ command_frame driver.frames → slice_get c.append_fence.new.memory f ≡ slice_get memory f =
     λ f apart. c.append_fence.ensures.other_frames f apart ∙ c.append_devices.ensures.other_frames f (λ same. apart (same ∙ ap command_frame many)) in
     let last = last_fence d in
@@ -131,7 +131,7 @@ returns-clause-ready g c =
     let new = c.append_fence.new.memory in
     let stand = c.requires.ready.stand in
     let r = g.M.Mmio.registers in
-    let many : length memory ≡ driver.frames = stand.size ∙ driver.invariants.sizes.marked in
+    let many : length memory ≡ driver.frames = stand.size ∙ driver.invariants.sizes.owned in
     let size : length new ≡ length memory = c.append_fence.ensures.size ∙ c.append_devices.ensures.size in
     let kept : (f : ℕ) → f ≢ command_frame driver.frames → slice_get new f ≡ slice_get memory f =
     λ f apart. c.append_fence.ensures.other_frames f apart ∙ c.append_devices.ensures.other_frames f (λ same. apart (same ∙ ap command_frame many)) in

@@ -51,7 +51,7 @@ put_context-requires-clause-directory c =
     let driver = c.args.self.now in
     let stand = c.requires.stand in
     rw c.directory_frame-directory.ensures
-    (in_stands driver.frames c.args.memory.now driver.owners driver.devices.items driver.levels (stand.size ∙ driver.invariants.sizes.marked) (stand.directory c.in-Ok.ensures.may.started)).tree
+    (in_stands driver.frames c.args.memory.now driver.owners driver.devices.items driver.levels (stand.size ∙ driver.invariants.sizes.owned) (stand.directory c.in-Ok.ensures.may.started)).tree
 
 pub put_context-requires-clause-id : goal.put_context-requires-clause-id
 put_context-requires-clause-id c =
@@ -64,7 +64,7 @@ put_context-requires-clause-empty c =
     let driver = c.args.self.now in
     let may = c.in-Ok.ensures.may in
     let stand = c.requires.stand in
-    let here = in_stands driver.frames c.args.memory.now driver.owners driver.devices.items driver.levels (stand.size ∙ driver.invariants.sizes.marked) (stand.directory may.started) in
+    let here = in_stands driver.frames c.args.memory.now driver.owners driver.devices.items driver.levels (stand.size ∙ driver.invariants.sizes.owned) (stand.directory may.started) in
     let low = subst (λ n. c.args.id < n) (room_for_ids driver.levels driver.invariants.sizes.in_range) (driver.invariants.named c.args.id c.in-Ok.stage (ap owned_stages may.quarantined)) in
     rw c.directory_frame-directory.ensures (here.contexts c.args.id low ∙ ap located_for (ap attached_stages may.quarantined))
 
@@ -73,7 +73,7 @@ put_context-requires-clause-count c =
     let driver = c.args.self.now in
     let may = c.in-Ok.ensures.may in
     let stand = c.requires.stand in
-    let here = in_stands driver.frames c.args.memory.now driver.owners driver.devices.items driver.levels (stand.size ∙ driver.invariants.sizes.marked) (stand.directory may.started) in
+    let here = in_stands driver.frames c.args.memory.now driver.owners driver.devices.items driver.levels (stand.size ∙ driver.invariants.sizes.owned) (stand.directory may.started) in
     let low = subst (λ n. c.args.id < n) (room_for_ids driver.levels driver.invariants.sizes.in_range) (driver.invariants.named c.args.id c.in-Ok.stage (ap owned_stages may.quarantined)) in
     let path = here.places c.args.id c.in-Ok.stage (ap owned_stages may.quarantined) low in
     rw c.directory_frame-directory.ensures (sym (whole_path_there c.args.memory.now (root_level driver.levels) (directory_frame driver.frames) c.args.id path))
@@ -95,7 +95,7 @@ returns-clause-effect c =
     let memory = c.args.memory.now in
     let may = c.in-Ok.ensures.may in
     let stand = c.requires.stand in
-    let many : length memory ≡ driver.frames = stand.size ∙ driver.invariants.sizes.marked in
+    let many : length memory ≡ driver.frames = stand.size ∙ driver.invariants.sizes.owned in
     let here : DirectoryIn driver.frames memory driver.owners driver.devices.items driver.levels = in_stands driver.frames memory driver.owners driver.devices.items driver.levels many (stand.directory may.started) in
     let at_root : c.directory_frame-directory.result ≡ directory_frame (length memory) = c.directory_frame-directory.ensures ∙ ap directory_frame (sym many) in
     let put = subst (λ r. IsPutAgain memory c.put_context.new.memory driver.levels r c.args.id c.in-Ok.stage) c.directory_frame-directory.ensures record {
@@ -136,7 +136,7 @@ returns-clause-stand c =
     let may = c.in-Ok.ensures.may in
     let stand = c.requires.stand in
     let devices = with_attachment driver.devices.items id (Attached stage) in
-    let many : length memory ≡ driver.frames = stand.size ∙ driver.invariants.sizes.marked in
+    let many : length memory ≡ driver.frames = stand.size ∙ driver.invariants.sizes.owned in
     let here : DirectoryIn driver.frames memory driver.owners driver.devices.items driver.levels = in_stands driver.frames memory driver.owners driver.devices.items driver.levels many (stand.directory may.started) in
     let put = subst (λ r. IsPutAgain memory c.put_context.new.memory driver.levels r id stage) c.directory_frame-directory.ensures record {
       tree = c.put_context.ensures.directory;
@@ -167,7 +167,7 @@ returns-clause-ready c = λ r ready.
     let memory = c.args.memory.now in
     let may = c.in-Ok.ensures.may in
     let stand = c.requires.stand in
-    let many : length memory ≡ driver.frames = stand.size ∙ driver.invariants.sizes.marked in
+    let many : length memory ≡ driver.frames = stand.size ∙ driver.invariants.sizes.owned in
     let here : DirectoryIn driver.frames memory driver.owners driver.devices.items driver.levels = in_stands driver.frames memory driver.owners driver.devices.items driver.levels many (stand.directory may.started) in
     let put = subst (λ root. IsPutAgain memory c.put_context.new.memory driver.levels root c.args.id c.in-Ok.stage) c.directory_frame-directory.ensures record {
       tree = c.put_context.ensures.directory;

@@ -42,7 +42,7 @@ root_zero frames memory before after cleared size many le is at =
 pub name_directory-requires-clause-zero : goal.name_directory-requires-clause-zero
 name_directory-requires-clause-zero g c =
     let driver = c.args.self.now in
-    root_zero driver.frames c.args.memory.now c.store_u32.new.self c.clear.new.memory c.directory_frame.result c.store_u32.ensures.frames (c.requires.size ∙ driver.invariants.sizes.marked)
+    root_zero driver.frames c.args.memory.now c.store_u32.new.self c.clear.new.memory c.directory_frame.result c.store_u32.ensures.frames (c.requires.size ∙ driver.invariants.sizes.owned)
     driver.invariants.sizes.size.0 c.clear.ensures c.directory_frame.ensures
 
 pub returns-clause-effect : goal.returns-clause-effect
@@ -51,7 +51,7 @@ returns-clause-effect g c =
     let memory = c.args.memory.now in
     let after = g.M.Mmio.after in
     let law = g.met.M.Mmio.writes_registers in
-    let many : length memory ≡ driver.frames = c.requires.size ∙ driver.invariants.sizes.marked in
+    let many : length memory ≡ driver.frames = c.requires.size ∙ driver.invariants.sizes.owned in
     let whole = on_some c.store_u32.result
     (c.store_u32.ensures.done.1 (place driver.frames memory c.completion_address.result many driver.invariants.sizes.size.0 c.completion_address.ensures.value)) c.store_u32.ensures.whole in
     let r = g.M.Mmio.registers in
@@ -86,7 +86,7 @@ returns-clause-ready g c =
     let driver = c.args.self.now in
     let memory = c.args.memory.now in
     let law = g.met.M.Mmio.writes_registers in
-    let many : length memory ≡ driver.frames = c.requires.size ∙ driver.invariants.sizes.marked in
+    let many : length memory ≡ driver.frames = c.requires.size ∙ driver.invariants.sizes.owned in
     let r = g.M.Mmio.registers in
     let ran : r c.write-4.new.io ≡ started (r c.args.io.now) (ddtp_of driver.frames driver.levels) (cqb_of driver.frames) (fqb_of driver.frames) =
     ap r c.write-4.ensures ∙ law c.write-3.new.io Fqcsr 1

@@ -1,7 +1,7 @@
 // Which frames are reserved at some time.
 ghost use Rattle.std.specs.Prelude.{◌≡◌, length};
 ghost use Rattle.iom_world.specs.Shown.{shown_of};
-ghost use Rattle.iom_tell.specs.Told.{AreMarksOf};
+ghost use Rattle.iom_tell.specs.Told.{AreReservedOf};
 
 use iom_phys_mem::MAX_FRAMES;
 use iom_virtio_blk::Disk;
@@ -11,45 +11,45 @@ use std::marker::Model;
 
 /// Whether each frame of a memory is reserved, as it was noted last. It takes its memory when it is made, and none after that.
 #[derive(Drop)]
-pub struct FrameMarks {
-    marks: Vec<bool>,
+pub struct ReservedFrames {
+    are_reserved: Vec<bool>,
 }
 
-impl Model for FrameMarks {
+impl Model for ReservedFrames {
     ghost use Rattle.std.specs.Prelude.{List, Bool, ◌≡◌, length};
 
     ghost Value = { List Bool };
 
-    ghost view = { λ noted. noted.marks.items };
+    ghost view = { λ frames. frames.are_reserved.items };
 
-    ghost invariant = { λ noted. length noted.marks.items ≡ 4096 };
+    ghost invariant = { λ frames. length frames.are_reserved.items ≡ 4096 };
 }
 
 /// Notes which frames of the world are reserved.
-fn note_each<D: Disk>(marks: &mut [bool], world: &World<D>)
-    requires { length marks.old ≡ 4096 }
-    ensures noted { AreMarksOf marks.new (shown_of D.shown world.now) }
-    ensures len { length marks.new ≡ 4096 }
+fn note_each<D: Disk>(are_reserved: &mut [bool], world: &World<D>)
+    requires { length are_reserved.old ≡ 4096 }
+    ensures noted { AreReservedOf are_reserved.new (shown_of D.shown world.now) }
+    ensures len { length are_reserved.new ≡ 4096 }
 {
     for frame in 0..MAX_FRAMES {
-        marks[frame as usize] = world.is_reserved(frame);
+        are_reserved[frame as usize] = world.is_reserved(frame);
     }
 }
 
-impl FrameMarks {
+impl ReservedFrames {
     ghost use Rattle.std.specs.Prelude.{◌≡◌, ◌<◌, false, get_or};
 
     /// No frame is noted.
-    pub fn new(alloc: Global) -> Result<FrameMarks, AllocError> {
-        let marks = vec![in alloc; false; MAX_FRAMES as usize]?;
-        Ok(FrameMarks { marks })
+    pub fn new(alloc: Global) -> Result<ReservedFrames, AllocError> {
+        let are_reserved = vec![in alloc; false; MAX_FRAMES as usize]?;
+        Ok(ReservedFrames { are_reserved })
     }
 
     /// Notes which frames of the world are reserved.
     pub(crate) fn note<D: Disk>(&mut self, world: &World<D>)
-        ensures { AreMarksOf self.new (shown_of D.shown world.now) }
+        ensures { AreReservedOf self.new (shown_of D.shown world.now) }
     {
-        note_each(&mut self.marks, world);
+        note_each(&mut self.are_reserved, world);
     }
 
     /// Whether the frame was noted as reserved.
@@ -57,6 +57,6 @@ impl FrameMarks {
         requires { frame < 4096 }
         ensures { result ≡ get_or self.now frame false }
     {
-        self.marks[frame as usize]
+        self.are_reserved[frame as usize]
     }
 }
