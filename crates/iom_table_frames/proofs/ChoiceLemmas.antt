@@ -42,7 +42,7 @@ module _ (owners : List (Option Owner)) (ledger : Ledger) (unreserved : Words) (
   )
 
   pub free_unless : has unreserved frame ≡ false → (false ≡ true) ↔ IsFreeForTable owners ledger None frame
-  free_unless owned = (
+  free_unless marked = (
     (λ same. absurd (false≢true same)),
     (λ it. absurd (false≢true (sym marked ∙ is.has_unreserved frame ∙ unreserved_from_mark owners frame within it.unmarked))),
   )
