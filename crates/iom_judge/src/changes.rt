@@ -1,6 +1,6 @@
 // What changes of a domain: a page is granted, or released. It changes for each device of the domain, and a line may say it of
 // many pages.
-ghost use Rattle.std.specs.Prelude.{◌≡◌, ◌<◌, ◌∷◌, [], ℕ, List, IfSome, IsTrue, OnOk, map};
+ghost use Rattle.std.specs.Prelude.{◌≡◌, ◌<◌, ◌∷◌, [], List, IfSome, IsTrue, OnOk, map};
 ghost use Rattle.iom_machine.specs.declared.choice.Choice as spec_choice;
 ghost use Rattle.iom_machine.specs.declared.event.Event as spec_event;
 ghost use Rattle.iom_machine.specs.declared.outcome.Outcome.TheVariants as outcomes;
@@ -119,37 +119,21 @@ fn shown_at(has_tables: bool, tables: &[u64], index: u64) -> Shown<'_>
 }
 
 impl TraceMachine {
-    /// This came of the event, of which nothing is shown.
-    pub(crate) fn go_on_unshown<'x>(
+    /// This came of the event, and of no other device's with it, and this is shown of it.
+    pub(crate) fn go_on_showing<'x>(
         &mut self,
         line: &Line<'_>,
         event: &'x Event,
         outcome: &'x Outcome,
+        shown: Shown<'x>,
     ) -> Judged
-        ensures { OnOk result ((choice : spec_choice.Choice) × Continues self.old (Came event.now outcome.now choice ∷ []) self.new) }
-    {
-        let reply = Reported {
-            event,
-            outcome,
-            shown: NOTHING,
-        };
-        self.go_on_alone(line, &reply)
-    }
-
-    /// This came of the event of one device more, which took no tables.
-    pub(crate) fn go_on_without_tables<'x>(
-        &mut self,
-        line: &Line<'_>,
-        event: &'x Event,
-        outcome: &'x Outcome,
-    ) -> Judged
-        ensures { OnOk result ((choice : spec_choice.Choice) × (choice.taken ≡ [])
+        ensures { OnOk result ((choice : spec_choice.Choice) × ShowsChoice shown.entry event.now choice
             × Continues self.old (Came event.now outcome.now choice ∷ []) self.new) }
     {
         let reply = Reported {
             event,
             outcome,
-            shown: WITHOUT_TABLES,
+            shown,
         };
         self.go_on_alone(line, &reply)
     }
@@ -168,7 +152,8 @@ impl TraceMachine {
         match devices {
             [] => Ok(()),
             [device, others @ ..] => {
-                self.go_on_without_tables(line, &change.event_of(*device), outcome)?;
+                let event = change.event_of(*device);
+                self.go_on_showing(line, &event, outcome, WITHOUT_TABLES)?;
                 self.change_these(line, others, change, outcome)
             }
         }
@@ -235,20 +220,13 @@ impl TraceMachine {
         ensures { OnOk result (ContinuesAtEach self.old granted.device (changes.Grant granted.page granted.frame granted.rights) outcomes.Done granted.count
             has_tables tables.now self.new) }
     {
+        let (device, count, done) = (granted.device, granted.count, Outcome::Done);
         let first = Change::Grant {
             page: granted.page,
             frame: granted.frame,
             rights: granted.rights,
         };
-        self.change_each(
-            line,
-            granted.device,
-            first,
-            granted.count,
-            &Outcome::Done,
-            has_tables,
-            tables,
-        )
+        self.change_each(line, device, first, count, &done, has_tables, tables)
     }
 
     /// These pages were released under the ticket.
@@ -261,18 +239,9 @@ impl TraceMachine {
     ) -> Judged
         ensures { OnOk result (ContinuesAs self.old (Releases released.device released.page released.count ticket) [] self.new) }
     {
-        let first = Change::Release {
-            page: released.page,
-        };
-        let given = Outcome::Ticket(ticket);
-        self.change_each(
-            line,
-            released.device,
-            first,
-            released.count,
-            &given,
-            false,
-            &[],
-        )
+        let (device, count) = (released.device, released.count);
+        let (page, given) = (released.page, Outcome::Ticket(ticket));
+        let first = Change::Release { page };
+        self.change_each(line, device, first, count, &given, false, &[])
     }
 }

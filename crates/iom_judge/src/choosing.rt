@@ -3,13 +3,13 @@ ghost use Rattle.std.specs.Prelude.{◌≡◌, ℕ, List, IfOk, IfSome, IsTrue, 
 ghost use Rattle.iom_judge.specs.Certified.{ShowsChoice, ShowsTables};
 
 use crate::missing::{Begun, Missing};
-use crate::settled::{Reachable, Settled, first_reachable, page_without};
+use crate::settled::{Reachable, first_reachable, frame_of, page_without};
 use crate::stop::Line;
 use iom_base::{Access, AccessKind, Cause, DeviceId, Mode, PAGE_SIZE, Sequence};
 use iom_fabric::Translation;
 use iom_kept_state::KeptState;
 use iom_machine::{Choice, Event, Outcome};
-use iom_reasons::{Notes, Sent};
+use iom_reasons::{Notes, Sent, requester};
 use std::alloc::{AllocError, Global};
 
 /// Which frames a line shows as tables, where it does.
@@ -145,58 +145,29 @@ fn choose_shown(alloc: Global, choice: &mut Choice, reply: &Reported<'_>) -> Res
 
 /// A page of which the device may be told so, if there is one.
 fn page_told(kept: &KeptState, id: DeviceId, reply: Translation) -> u64 {
-    let found = match reply {
-        Translation::Page { frame, rights } => first_reachable(kept, id, |it: Reachable| -> bool {
-            it.frame == u64::from(frame) && it.rights == rights
-        }),
-        Translation::Refused(_) => None,
-    };
-    match found {
-        Some(it) => it.page,
-        None => page_without(kept, id),
+    if let Translation::Page { frame, rights } = reply {
+        let is_told = |it: Reachable| it.frame == u64::from(frame) && it.rights == rights;
+        if let Some(it) = first_reachable(kept, id, is_told) {
+            return it.page;
+        }
     }
+    page_without(kept, id)
 }
 
-/// What asks for an access at an address of its device: the device, and the address and kind where they are shown.
-fn asked_by(reply: &Reported<'_>) -> Option<(DeviceId, Option<(u64, AccessKind)>)> {
+/// The address and the kind of the access that is asked for, where they are shown.
+fn asked_for(reply: &Reported<'_>) -> Option<(u64, AccessKind)> {
     match reply.event {
-        Event::Read {
-            device,
-            address,
-            ..
+        Event::Read { address, .. } | Event::ReadThroughCache { address, .. } => {
+            Some((*address, AccessKind::Read))
         }
-        | Event::ReadThroughCache {
-            device,
-            address,
-            ..
-        } => Some((*device, Some((*address, AccessKind::Read)))),
-        Event::Write {
-            device,
-            address,
-            ..
+        Event::Write { address, .. } | Event::WriteThroughCache { address, .. } => {
+            Some((*address, AccessKind::Write))
         }
-        | Event::WriteThroughCache {
-            device,
-            address,
-            ..
-        } => Some((*device, Some((*address, AccessKind::Write)))),
-        Event::Step { device } => Some((
-            *device,
-            match reply.shown.began {
-                Some(access) => Some((access.address, access.kind)),
-                None => None,
-            },
-        )),
-        _ => None,
+        _ => {
+            let access = reply.shown.began?;
+            Some((access.address, access.kind))
+        }
     }
-}
-
-/// Whether only a write is refused so.
-fn is_of_write(cause: Cause) -> bool {
-    matches!(
-        cause,
-        Cause::WriteAccessFault | Cause::WritePageFault | Cause::WriteGuestPageFault
-    )
 }
 
 /// An access that is refused so, if any is: at a page where the device has nothing.
@@ -207,7 +178,7 @@ fn refused_access(
     cause: Cause,
 ) -> Result<Access, AllocError> {
     let mut access = read_at(alloc, page_without(kept, id).saturating_mul(PAGE_SIZE));
-    if is_of_write(cause) {
+    if let Cause::WriteAccessFault | Cause::WritePageFault | Cause::WriteGuestPageFault = cause {
         access.kind = AccessKind::Write;
         access.bytes.push(0)?;
     }
@@ -248,9 +219,9 @@ impl Chosen {
 
     /// The frame of an access that was accepted, where it isn't shown: the one that the grants say.
     fn choose_frame(&mut self, kept: &KeptState, begun: Begun, address: u64, kind: AccessKind) {
-        let settled = Settled::of(kept, begun.device, address, kind);
-        self.choice.frame = settled.frame;
-        if !settled.is_certain {
+        let (frame, is_certain) = frame_of(kept, begun.device, address, kind);
+        self.choice.frame = frame;
+        if !is_certain {
             self.missing = Some(Missing::Frame(begun));
         }
     }
@@ -275,7 +246,7 @@ impl Chosen {
         reply: &Reported<'_>,
         number: u64,
     ) {
-        let Some((device, access)) = asked_by(reply) else {
+        let Some(device) = requester(reply.event) else {
             return;
         };
         let begun = Begun {
@@ -283,13 +254,10 @@ impl Chosen {
             number,
             line: line.number,
         };
-        match access {
+        match asked_for(reply) {
             None => self.choose_access(line.alloc, kept, begun, reply.shown.on),
-            Some((address, kind)) => {
-                if reply.shown.on.is_none() {
-                    self.choose_frame(kept, begun, address, kind);
-                }
-            }
+            Some(_) if reply.shown.on.is_some() => {}
+            Some((address, kind)) => self.choose_frame(kept, begun, address, kind),
         }
     }
 

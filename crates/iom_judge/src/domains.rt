@@ -11,7 +11,7 @@ use crate::missing::Missing;
 use crate::stop::{Judged, Line};
 use indexmap::IndexMap;
 use iom_base::DeviceId;
-use iom_kept_state::{KeptGrants, KeptState};
+use iom_kept_state::{KeptGrants, KeptState, is_attached};
 use iom_machine::{Attachment, Device, Event, Outcome};
 use std::alloc::{AllocError, Global};
 
@@ -74,20 +74,14 @@ impl Domains {
     pub(crate) fn first_of(&self, device: DeviceId) -> DeviceId
         ensures { result ≡ option_map_or (λ first. first) (first_in self.now device) device }
     {
-        match self.first_with(device) {
-            None => device,
-            Some(first) => first,
-        }
+        self.first_with(device).unwrap_or(device)
     }
 
     /// Whether the device has the domain of this first one.
     fn has_domain_of(&self, device: DeviceId, first: DeviceId) -> bool
         ensures { result ≡ is_this (first_in self.now device) first }
     {
-        match self.first_with(device) {
-            None => false,
-            Some(it) => it == first,
-        }
+        self.first_with(device) == Some(first)
     }
 
     /// Adds those of the devices that have the domain of this first one, and are attached.
@@ -102,8 +96,7 @@ impl Domains {
         match devices {
             [] => Ok(()),
             [device, others @ ..] => {
-                let is_attached = matches!(device.attachment, Attachment::Attached { .. });
-                if self.has_domain_of(device.id, first) && is_attached {
+                if self.has_domain_of(device.id, first) && is_attached(device.attachment) {
                     found.push(device.id)?;
                 }
                 self.add_sharers(others, first, found)
@@ -135,10 +128,8 @@ impl Domains {
         match devices {
             [] => true,
             [device, others @ ..] => {
-                if self.has_domain_of(device.id, first) && !is_gone(grants, device.attachment) {
-                    return false;
-                }
-                self.none_walks(grants, others, first)
+                (!self.has_domain_of(device.id, first) || is_gone(grants, device.attachment))
+                    && self.none_walks(grants, others, first)
             }
         }
     }

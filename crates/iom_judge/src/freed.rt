@@ -3,29 +3,19 @@ ghost use Rattle.std.specs.Prelude.{OnOk};
 ghost use Rattle.iom_trace_lines.specs.TraceLines.{TablesFreed};
 ghost use Rattle.iom_judge.specs.Certified.{ContinuesAs};
 
-use crate::choosing::{NOTHING, Reported, Shown};
+use crate::choosing::{NOTHING, Shown};
 use crate::machine::TraceMachine;
 use crate::stop::{Judged, Line};
 use iom_base::Owner;
 use iom_kept_state::KeptState;
 use iom_machine::{Attachment, Event, Outcome};
 use std::alloc::{AllocError, Global};
-
-/// The first of the tables that may not be given back.
-fn first_in_use(kept: &KeptState, tables: &[u64]) -> Option<u64> {
-    tables
-        .iter()
-        .copied()
-        .find(|table| !kept.may_give_back_all(&[*table]))
-}
+use std::slice::from_ref;
 
 /// Why the table may not be given back.
 fn why_in_use(alloc: Global, kept: &KeptState, table: u64) -> Result<String, AllocError> {
     if kept.limits.in_order {
-        return String::from_str(
-            alloc,
-            "tables are given back in a world without limits alone",
-        );
+        return format!(in alloc; "tables are given back in a world without limits alone");
     }
     let device = match kept.frames.owner(table) {
         None => return format!(in alloc; "frame {table} is nobody's table"),
@@ -45,22 +35,20 @@ impl TraceMachine {
     pub(crate) fn free_tables(&mut self, line: &Line<'_>, tables: &[u64]) -> Judged
         ensures { OnOk result (ContinuesAs self.old TablesFreed tables.now self.new) }
     {
-        if let Some(table) = first_in_use(&self.kept, tables) {
+        let kept = &self.kept;
+        let mut shown_ones = tables.iter();
+        if let Some(table) = shown_ones.find(|table| !kept.may_give_back_all(from_ref(*table))) {
             if let Some(missing) = self.guesses.tables {
                 return Err(line.uncertified(missing)?);
             }
-            let why = why_in_use(line.alloc, &self.kept, table)?;
+            let why = why_in_use(line.alloc, kept, *table)?;
             return Err(line.unlawful(&why)?);
         }
         let shown = Shown {
             freed: tables,
             ..NOTHING
         };
-        let reply = Reported {
-            event: &Event::Poll,
-            outcome: &Outcome::NoneConfirmed { timed_out: false },
-            shown,
-        };
-        self.go_on_alone(line, &reply)
+        let none = Outcome::NoneConfirmed { timed_out: false };
+        self.go_on_showing(line, &Event::Poll, &none, shown)
     }
 }

@@ -1,6 +1,7 @@
 // What was guessed of what lines don't show, and which line depends on it.
 use crate::choosing::{Reported, Tables};
 use crate::missing::Missing;
+use indexmap::IndexMap;
 use iom_base::{DeviceId, PAGE_SIZE, Refusal};
 use iom_kept_state::KeptState;
 use iom_machine::{Device, Event, Outcome};
@@ -17,8 +18,8 @@ pub(crate) struct Guesses {
     pub(crate) tables: Option<Missing>,
     /// Whether a device was detached since: its tables are given back, as frames of zeros.
     gives_back: bool,
-    /// The accesses in flight of which something was guessed.
-    in_flight: Vec<Missing>,
+    /// What was guessed of accesses in flight, by their device and number.
+    in_flight: IndexMap<(DeviceId, u64), Missing>,
     /// The first of them that was a write, and was made: bytes may be elsewhere.
     made: Option<Missing>,
 }
@@ -29,23 +30,13 @@ fn oldest_number(device: &Device) -> u64 {
     device.accepted.saturating_sub(count).saturating_add(1)
 }
 
-/// Whether this is missing of the device's access with this number.
-fn is_of(missing: Missing, device: DeviceId, number: u64) -> bool {
-    match missing {
-        Missing::Frame(begun) | Missing::Access(begun) => {
-            begun.device == device && begun.number == number
-        }
-        _ => false,
-    }
-}
-
 impl Guesses {
     pub(crate) fn new(alloc: Global) -> Guesses {
         Guesses {
             shows_tables: false,
             tables: None,
             gives_back: false,
-            in_flight: Vec::new(alloc),
+            in_flight: IndexMap::new(alloc),
             made: None,
         }
     }
@@ -66,21 +57,15 @@ impl Guesses {
     /// This is missing of what the line shows.
     #[inline(never)]
     pub(crate) fn miss(&mut self, missing: Missing) -> Result<(), AllocError> {
-        if !matches!(missing, Missing::Tables { .. }) {
-            self.in_flight.push(missing)?;
-            return Ok(());
-        }
-        if !self.shows_tables && self.tables.is_none() {
-            self.tables = Some(missing);
+        match missing {
+            Missing::Frame(begun) | Missing::Access(begun) => {
+                self.in_flight
+                    .insert((begun.device, begun.number), missing)?;
+            }
+            _ if self.shows_tables => {}
+            _ => self.tables = self.tables.or(Some(missing)),
         }
         Ok(())
-    }
-
-    /// The place of what was guessed of the device's access with this number.
-    fn place_of(&self, device: DeviceId, number: u64) -> Option<usize> {
-        self.in_flight
-            .iter()
-            .position(|missing| is_of(*missing, device, number))
     }
 
     /// The place of what was guessed of the access that the event makes, if it is a commit.
@@ -91,23 +76,23 @@ impl Guesses {
         if self.in_flight.is_empty() {
             return None;
         }
-        let device = kept.device(*id)?;
-        self.place_of(*id, oldest_number(device))
+        let number = oldest_number(kept.device(*id)?);
+        self.in_flight.get_index_of(&(*id, number))
     }
 
     /// What was guessed at the place.
     fn guess_at(&self, place: Option<usize>) -> Option<Missing> {
-        self.in_flight.get(place?).copied()
+        let (_access, missing) = self.in_flight.get_index(place?)?;
+        Some(*missing)
     }
 
     /// The access is made of which something was guessed at this place. One that isn't shown may be a write, where the line says no
     /// more than that.
     #[inline(never)]
     fn make(&mut self, place: usize, outcome: &Outcome) {
-        if place >= self.in_flight.len() {
+        let Some((_access, made)) = self.in_flight.swap_remove_index(place) else {
             return;
-        }
-        let made = self.in_flight.remove(place);
+        };
         let may_write = matches!(made, Missing::Access(_)) || matches!(outcome, Outcome::Wrote(_));
         if may_write && self.made.is_none() {
             self.made = Some(made);
@@ -145,9 +130,8 @@ impl Guesses {
                 let (id, page) = (device.id, flight.access.address / PAGE_SIZE);
                 let (grants, kind) = (&kept.grants, flight.access.kind);
                 if !grants.may_once(id, page, flight.frame, kind, first, last) {
-                    let place = self.place_of(id, oldest.saturating_add(index as u64));
-                    let guessed = self.guess_at(place)?;
-                    found = found.or(Some(guessed));
+                    let number = oldest.saturating_add(index as u64);
+                    found = found.or(Some(*self.in_flight.get(&(id, number))?));
                 }
             }
         }

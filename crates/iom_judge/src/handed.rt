@@ -4,7 +4,7 @@ ghost use Rattle.iom_judge.specs.Certified.{is_given, ContinuesAs};
 ghost use Rattle.iom_judge.specs.Happenings.{is_in, is_used};
 ghost use Rattle.iom_trace_lines.specs.TraceLines.{Handoff, Take};
 
-use crate::choosing::Reported;
+use crate::choosing::{NOTHING, Reported};
 use crate::machine::TraceMachine;
 use crate::stop::{Judged, Line};
 use indexmap::IndexMap;
@@ -70,12 +70,8 @@ impl Handed {
     {
         match frames {
             [] => None,
-            [first, rest @ ..] => {
-                if self.frames.contains_key(first) {
-                    return Some(*first);
-                }
-                self.first_of(rest)
-            }
+            [first, ..] if self.frames.contains_key(first) => Some(*first),
+            [_, rest @ ..] => self.first_of(rest),
         }
     }
 
@@ -85,10 +81,7 @@ impl Handed {
             → IsTrue (is_used reply.now.event.now reply.now.outcome.now choice.now frame) → is_given self.now frame ≡ false }
     {
         let (ones, others) = used(reply.event, reply.outcome, choice);
-        match self.first_of(ones) {
-            None => self.first_of(others),
-            found => found,
-        }
+        self.first_of(ones).or(self.first_of(others))
     }
 
     /// The frames are used from here on.
@@ -130,9 +123,8 @@ impl Handed {
         let Some(frame) = self.first_used(reply, choice) else {
             return Ok(());
         };
-        let alloc = line.alloc;
         let given = self.frames.get(&frame).copied().unwrap_or(0);
-        let reason = format!(in alloc;
+        let reason = format!(in line.alloc;
             "frame {frame} was given to somebody else in line {given}, and isn't taken back"
         )?;
         Err(line.unlawful(&reason)?)
@@ -144,7 +136,7 @@ impl TraceMachine {
     pub(crate) fn hand_off(&mut self, line: &Line<'_>, frame: u64) -> Judged
         ensures { OnOk result (ContinuesAs self.old (Handoff frame) [] self.new) }
     {
-        self.go_on_unshown(line, &Event::Free { frame }, &Outcome::Free(true))?;
+        self.go_on_showing(line, &Event::Free { frame }, &Outcome::Free(true), NOTHING)?;
         self.handed.hand_off(frame, line.number)?;
         Ok(())
     }
@@ -156,8 +148,7 @@ impl TraceMachine {
         if self.handed.take_back(frame) {
             return Ok(());
         }
-        let alloc = line.alloc;
-        let reason = format!(in alloc; "frame {frame} wasn't given to anybody else")?;
+        let reason = format!(in line.alloc; "frame {frame} wasn't given to anybody else")?;
         Err(line.unlawful(&reason)?)
     }
 }

@@ -54,7 +54,8 @@ fn take_said<'x>(
 /// What the reading of a line takes, for line after line.
 #[derive(Drop)]
 struct Reading {
-    outcomes: KeptOutcomes,
+    /// In a box of its own: it has room for an answer of each kind.
+    outcomes: Box<KeptOutcomes>,
     tables: Vec<u64>,
     began: Option<Access>,
 }
@@ -62,7 +63,7 @@ struct Reading {
 impl Reading {
     fn new(alloc: Global) -> io::Result<Reading> {
         Ok(Reading {
-            outcomes: KeptOutcomes::new(alloc)?,
+            outcomes: Box::new(alloc, KeptOutcomes::new(alloc)?)?,
             tables: Vec::new(alloc),
             began: None,
         })

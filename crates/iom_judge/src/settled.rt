@@ -2,13 +2,6 @@
 use iom_base::{AccessKind, DeviceId, Mode, PAGE_SIZE, Rights};
 use iom_kept_state::KeptState;
 
-/// A frame on which an access may be, and whether it may be on no other.
-#[derive(Clone, Copy)]
-pub(crate) struct Settled {
-    pub(crate) frame: u64,
-    pub(crate) is_certain: bool,
-}
-
 /// What a device has at a page: it holds the frame, or else the frame lingers.
 #[derive(Clone, Copy)]
 pub(crate) struct Reachable {
@@ -33,14 +26,6 @@ pub(crate) fn reachable_at(kept: &KeptState, id: DeviceId, page: u64) -> Option<
     })
 }
 
-/// The frame of what was found; 0 where that is nothing.
-fn frame_of(found: Option<Reachable>) -> u64 {
-    match found {
-        None => 0,
-        Some(it) => it.frame,
-    }
-}
-
 /// The first of what the device has that is so.
 pub(crate) fn first_reachable<F: Fn(Reachable) -> bool>(
     kept: &KeptState,
@@ -60,36 +45,36 @@ pub(crate) fn first_reachable<F: Fn(Reachable) -> bool>(
     None
 }
 
-impl Settled {
-    /// A frame that the device may reach by an access of this kind, at some page: one that it holds, rather than one that may end soon.
-    fn somewhere(kept: &KeptState, id: DeviceId, kind: AccessKind) -> Settled {
-        let held = first_reachable(kept, id, |it: Reachable| -> bool {
-            it.is_held && it.rights.allows(kind)
-        });
-        let any = match held {
-            None => first_reachable(kept, id, |it: Reachable| -> bool { it.rights.allows(kind) }),
-            held => held,
-        };
-        let frame = frame_of(any);
-        let other = first_reachable(kept, id, |it: Reachable| -> bool {
-            it.frame != frame && it.rights.allows(kind)
-        });
-        Settled {
-            frame,
-            is_certain: other.is_none(),
-        }
-    }
+/// A frame that the device may reach by an access of this kind, at some page: one that it holds, rather than one that may end soon. And
+/// whether it may reach no other.
+fn frame_somewhere(kept: &KeptState, id: DeviceId, kind: AccessKind) -> (u64, bool) {
+    let held = first_reachable(kept, id, |it: Reachable| -> bool {
+        it.is_held && it.rights.allows(kind)
+    });
+    let any = match held {
+        None => first_reachable(kept, id, |it: Reachable| -> bool { it.rights.allows(kind) }),
+        held => held,
+    };
+    let frame = any.map_or(0, |it: Reachable| -> u64 { it.frame });
+    let other = first_reachable(kept, id, |it: Reachable| -> bool {
+        it.frame != frame && it.rights.allows(kind)
+    });
+    (frame, other.is_none())
+}
 
-    /// The frame on which an access of the device is that was accepted. Of a device in one stage that is what it has at the page.
-    pub(crate) fn of(kept: &KeptState, id: DeviceId, address: u64, kind: AccessKind) -> Settled {
-        if let Some(Mode::Both(_)) = kept.attachment(id).mode() {
-            return Settled::somewhere(kept, id, kind);
-        }
-        Settled {
-            frame: frame_of(reachable_at(kept, id, address / PAGE_SIZE)),
-            is_certain: true,
-        }
+/// The frame on which an access of the device is that was accepted, and whether it may be on no other. Of a device in one stage that
+/// is what it has at the page.
+pub(crate) fn frame_of(
+    kept: &KeptState,
+    id: DeviceId,
+    address: u64,
+    kind: AccessKind,
+) -> (u64, bool) {
+    if let Some(Mode::Both(_)) = kept.attachment(id).mode() {
+        return frame_somewhere(kept, id, kind);
     }
+    let found = reachable_at(kept, id, address / PAGE_SIZE);
+    (found.map_or(0, |it: Reachable| -> u64 { it.frame }), true)
 }
 
 /// A page at which the device has nothing.

@@ -44,12 +44,11 @@ pub(crate) struct Line<'a> {
 impl Line<'_> {
     /// The reason, behind the line.
     pub(crate) fn quoting(&self, reason: &str) -> Result<String, AllocError> {
-        let alloc = self.alloc;
-        let quoted = quoted(alloc, self.text)?;
+        let quoted = quoted(self.alloc, self.text)?;
         if reason.is_empty() {
             return Ok(quoted);
         }
-        format!(in alloc; "{quoted}: {reason}")
+        format!(in self.alloc; "{quoted}: {reason}")
     }
 
     /// The judging stops at it, for what is found.
@@ -78,14 +77,13 @@ impl Line<'_> {
     /// Its text isn't in the grammar: where, what stands there, and what was expected.
     #[inline(never)]
     pub(crate) fn bad_text(&self, is_first: bool) -> Result<Stop, AllocError> {
-        let alloc = self.alloc;
         let Ok(text) = str::from_utf8(self.text) else {
             return self.bad("it isn't text");
         };
         let place = explain_trace_line(text, is_first);
-        let found = quoted(alloc, place.found.as_bytes())?;
+        let found = quoted(self.alloc, place.found.as_bytes())?;
         let (column, expected, form) = (place.column, place.expected, place.form);
-        let wrong = format!(in alloc;
+        let wrong = format!(in self.alloc;
             "column {column}: {found} stands where {expected} was expected ({form})"
         )?;
         self.stop(Finding::Bad(wrong))

@@ -9,20 +9,16 @@ impl KeptState {
     pub fn is_free(&self, number: u64) -> bool
         ensures { (h : History) → IsPastOf self.now.grants h → IsTrue result ↔ IsFree (state_of self.now h) number }
     {
-        if number >= self.frames.count() || self.frames.is_reserved(number) {
-            return false;
-        }
-        self.grants.is_out_of_reach(number)
+        number < self.frames.count()
+            && !self.frames.is_reserved(number)
+            && self.grants.is_out_of_reach(number)
     }
 
     /// Whether the frame is free, and isn't the one that is named, if one is.
     fn is_free_besides(&self, named: Option<u64>, number: u64) -> bool
         ensures { (h : History) → IsPastOf self.now.grants h → IsTrue result ↔ IsFreeBesides (state_of self.now h) named number }
     {
-        if named == Some(number) {
-            return false;
-        }
-        self.is_free(number)
+        named != Some(number) && self.is_free(number)
     }
 
     /// Whether each of the frames is free, and none is the one that is named, if one is.
@@ -60,16 +56,10 @@ impl KeptState {
         ensures { (h : History) → IsPastOf self.now.grants h → IsTrue result ↔ IsFreeRun (state_of self.now h) run }
     {
         let first = 4 * run;
-        if !self.is_free(first) {
-            return false;
-        }
-        if !self.is_free(first + 1) {
-            return false;
-        }
-        if !self.is_free(first + 2) {
-            return false;
-        }
-        self.is_free(first + 3)
+        self.is_free(first)
+            && self.is_free(first + 1)
+            && self.is_free(first + 2)
+            && self.is_free(first + 3)
     }
 
     /// Whether fewer than so many aligned runs of four frames are free.

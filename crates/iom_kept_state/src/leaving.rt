@@ -1,6 +1,6 @@
 //! What is left of devices once the tickets are confirmed under which they leave.
 ghost use Rattle.std.specs.Prelude.{◌≡◌, ◌==◌, ◌<◌, Some, not, length, map, find, slice_get, slice_set, OnOk};
-ghost use Rattle.iom_kept_state.specs.Words.{list_any, option_copied, Owner, History, Device, Frame, attachment_in, is_of_left_in, has_left, once_confirmed, device_once_confirmed, given_back, with_left, frames_in, IsPastOf, state_of};
+ghost use Rattle.iom_kept_state.specs.Words.{list_any, option_copied, Owner, History, Device, attachment_in, is_of_left_in, has_left, device_once_confirmed, given_back, with_left, frames_in, IsPastOf, state_of};
 
 use crate::frames::{KeptFrame, KeptFrames};
 use crate::grants::KeptGrants;
@@ -16,17 +16,6 @@ fn has_left(grants: &KeptGrants, attachment: Attachment) -> bool
     match attachment {
         Attachment::Leaving { ticket, .. } => grants.is_confirmed(ticket),
         _ => false,
-    }
-}
-
-/// What was leaving is detached, once its ticket is confirmed.
-fn once_confirmed(grants: &KeptGrants, attachment: Attachment) -> Attachment
-    ensures { (h : History) → IsPastOf grants.now h → result ≡ once_confirmed h attachment }
-{
-    if has_left(grants, attachment) {
-        Attachment::Detached
-    } else {
-        attachment
     }
 }
 
@@ -94,7 +83,9 @@ fn detach(grants: &KeptGrants, devices: &mut Sequence<Device>, place: usize)
         → devices.new ≡ slice_set devices.old place (device_once_confirmed h device) }
 {
     let device = devices.item_mut(place);
-    device.attachment = once_confirmed(grants, device.attachment);
+    if has_left(grants, device.attachment) {
+        device.attachment = Attachment::Detached;
+    }
 }
 
 /// The devices that have left are detached.

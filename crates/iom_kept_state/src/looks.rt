@@ -108,7 +108,9 @@ impl KeptGrants {
             held: true,
         };
         let noted = self.pages.get(place).copied().unwrap_or(page);
-        wanted.is_held_near(&self.ledger, noted, page) || wanted.is_anywhere(&self.ledger)
+        wanted.is_held_at(&self.ledger, noted)
+            || wanted.is_held_at(&self.ledger, page)
+            || wanted.is_anywhere(&self.ledger)
     }
 
     /// Whether the device may reach the frame by an access of this kind. It is looked for at this page first, so that the others
@@ -169,9 +171,6 @@ impl KeptGrants {
     pub fn hold_the_same(&self, one: DeviceId, other: DeviceId) -> bool
         ensures { (h : History) → IsPastOf self.now h → IsTrue result ↔ ((page : ℕ) → held_at h one page ≡ held_at h other page) }
     {
-        if !self.agree_at_pages(one, one, other) {
-            return false;
-        }
-        self.agree_at_pages(other, one, other)
+        self.agree_at_pages(one, one, other) && self.agree_at_pages(other, one, other)
     }
 }

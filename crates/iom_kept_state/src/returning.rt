@@ -1,9 +1,8 @@
 //! Tables that are given back of devices that stay attached.
-ghost use Rattle.std.specs.Prelude.{◌≡◌, ◌==◌, ◌↔◌, ℕ, [], All, IsTrue, Some, find};
-ghost use Rattle.iom_kept_state.specs.Words.{option_copied, History, lingering_at, OneDevice, empty_frame, attachment_of, is_attached, frames_returned, MayGiveBack, MayGiveBackOf, with_returned, frames_in, ChangesFrame, IsPastOf, state_of};
+ghost use Rattle.std.specs.Prelude.{◌≡◌, ◌==◌, ◌↔◌, All, IsTrue, Some, find};
+ghost use Rattle.iom_kept_state.specs.Words.{option_copied, History, OneDevice, empty_frame, attachment_of, is_attached, frames_returned, MayGiveBack, MayGiveBackOf, with_returned, frames_in, ChangesFrame, IsPastOf, state_of};
 
 use crate::frames::KeptFrames;
-use crate::grants::KeptGrants;
 use crate::leaving::{attachment_in, device_with};
 use crate::state::KeptState;
 use iom_base::{DeviceId, Owner};
@@ -34,15 +33,6 @@ impl KeptFrames {
     }
 }
 
-impl KeptGrants {
-    /// Whether nothing lingers for the device.
-    fn nothing_lingers(&self, device: DeviceId) -> bool
-        ensures { (h : History) → IsPastOf self.now h → IsTrue result ↔ ((page : ℕ) → lingering_at h device page ≡ []) }
-    {
-        !self.ledger.lingers_anything(device)
-    }
-}
-
 impl KeptState {
     /// The plugged device with this id.
     pub fn device(&self, id: DeviceId) -> Option<&Device>
@@ -62,18 +52,7 @@ impl KeptState {
     pub fn device_may_give_back(&self, device: DeviceId) -> bool
         ensures { (h : History) → IsPastOf self.now.grants h → IsTrue result ↔ MayGiveBackOf (state_of self.now h) (Some (OneDevice device)) }
     {
-        is_attached(attachment_in(self.devices.as_slice(), device))
-            && self.grants.nothing_lingers(device)
-    }
-
-    /// Whether what belongs to the owner may be given back.
-    fn owner_may_give_back(&self, owner: Owner) -> bool
-        ensures { (h : History) → IsPastOf self.now.grants h → IsTrue result ↔ MayGiveBackOf (state_of self.now h) (Some owner) }
-    {
-        match owner {
-            Owner::System => false,
-            Owner::OneDevice(device) => self.device_may_give_back(device),
-        }
+        is_attached(self.attachment(device)) && !self.grants.ledger.lingers_anything(device)
     }
 
     /// Whether the frame may be given back.
@@ -84,8 +63,8 @@ impl KeptState {
             return false;
         }
         match self.frames.owner(number) {
-            None => false,
-            Some(owner) => self.owner_may_give_back(owner),
+            None | Some(Owner::System) => false,
+            Some(Owner::OneDevice(device)) => self.device_may_give_back(device),
         }
     }
 

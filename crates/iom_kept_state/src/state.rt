@@ -38,15 +38,13 @@ impl KeptState {
         ensures past { IfOk result (λ kept. IsPastOf kept.grants []) }
         ensures state { IfOk result (λ kept. state_of kept [] ≡ opening limits frames levels disks.now) }
     {
-        let mut numbers = Vec::new(alloc);
-        numbers.extend_from_slice(disks)?;
         Ok(KeptState {
             limits,
             levels,
             frames: KeptFrames::at_power_on(alloc, frames)?,
             grants: KeptGrants::new(alloc)?,
             devices: Sequence::new(alloc),
-            disks: Sequence::from_vec(numbers),
+            disks: Sequence::from_vec(Vec::from_slice(alloc, disks)?),
         })
     }
 }

@@ -32,28 +32,18 @@ impl ConfirmedTickets {
         0 < ticket && ticket <= self.settled || self.later.contains(&ticket)
     }
 
-    /// The ticket that follows the settled ones is settled too, where it is confirmed.
-    fn absorb_next(&mut self) -> bool
-        ensures { (ticket : ℕ) → is_among self.new ticket ≡ is_among self.old ticket }
-    {
-        let Some(next) = self.settled.checked_add(1) else {
-            return false;
-        };
-        if !self.later.swap_remove(&next) {
-            return false;
-        }
-        self.settled = next;
-        true
-    }
-
     /// The tickets that follow the settled ones are settled too, as far as they are confirmed.
     fn absorb(&mut self)
         ensures { (ticket : ℕ) → is_among self.new ticket ≡ is_among self.old ticket }
     {
         for _round in 0..self.later.len() {
-            if !self.absorb_next() {
+            let Some(next) = self.settled.checked_add(1) else {
+                return;
+            };
+            if !self.later.swap_remove(&next) {
                 return;
             }
+            self.settled = next;
         }
     }
 

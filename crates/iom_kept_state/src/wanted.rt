@@ -1,16 +1,6 @@
 //! Whether a frame is reached, in a ledger that names it by its place.
-ghost use Rattle.std.specs.Prelude.{◌≡◌};
-ghost use Rattle.iom_kept_state.specs.Wanted.{is_between};
-
 use iom_base::{AccessKind, DeviceId};
 use iom_ledger::{Ledger, Reach};
-
-/// Whether the ticket is one from the first to the last.
-fn is_between(first: u32, last: u32, ticket: u32) -> bool
-    ensures { result ≡ is_between first last ticket }
-{
-    first <= ticket && ticket <= last
-}
 
 /// What is looked for: a way by which the device reaches the frame at this place, with a right that allows the kind.
 #[derive(Clone, Copy)]
@@ -38,12 +28,12 @@ impl Wanted {
         }
         match reach.ticket {
             None => self.held,
-            Some(ticket) => !is_between(self.first, self.last, ticket),
+            Some(ticket) => !(self.first <= ticket && ticket <= self.last),
         }
     }
 
     /// Whether there is one at this page, where it holds something.
-    fn is_held_at(&self, ledger: &Ledger, page: u64) -> bool
+    pub(crate) fn is_held_at(&self, ledger: &Ledger, page: u64) -> bool
         requires { self.now.held ≡ true }
         ensures { IsTrue result → IsReached self.now ledger.now }
     {
@@ -51,17 +41,6 @@ impl Wanted {
             None => false,
             Some((place, rights)) => place == self.place && rights.allows(self.kind),
         }
-    }
-
-    /// Whether there is one at either page, where it holds something.
-    pub(crate) fn is_held_near(&self, ledger: &Ledger, one: u64, other: u64) -> bool
-        requires { self.now.held ≡ true }
-        ensures { IsTrue result → IsReached self.now ledger.now }
-    {
-        if self.is_held_at(ledger, one) {
-            return true;
-        }
-        self.is_held_at(ledger, other)
     }
 
     /// Whether there is one.

@@ -6,8 +6,8 @@ use crate::devices::{attach_again, place_of, set_attachment, start_leaving, unde
 use crate::disks::without_disk;
 use crate::line::Decided;
 use crate::reasons::{
-    attach_refusal, detach_refusal, grant_refusal, most_tables, plug_refusal, quarantine_refusal,
-    refuses, release_refusal, revive_refusal,
+    attach_refusal, detach_refusal, grant_refusal, plug_refusal, quarantine_refusal, refuses,
+    release_refusal, revive_refusal,
 };
 use iom_base::{DeviceId, GrantRights, Mode, NewDevice, Owner, Refusal, Sequence};
 use iom_kept_state::KeptState;
@@ -37,7 +37,10 @@ pub fn may_refuse_grant(kept: &KeptState, id: DeviceId, frame: u64, why: Refusal
     ensures { (h : History) → IsPastOf kept.now.grants h → IsTrue result ↔ MayRefuseGrant (state_of kept.now h) id frame why }
 {
     match why {
-        Refusal::NoFrames => kept.are_fewer_free(Some(frame), most_tables(kept, id)),
+        Refusal::NoFrames => kept.are_fewer_free(
+            Some(frame),
+            kept.attachment(id).table_limit() as usize,
+        ),
         Refusal::Memory => true,
         _ => false,
     }

@@ -4,22 +4,16 @@ ghost use Rattle.iom_machine_judge.specs.Words.{option_copied, History, May, Dev
 
 use crate::devices::take_oldest;
 use crate::line::Decided;
-use iom_base::{AcceptedAccess, Access, AccessKind, DeviceId, PAGE_SIZE};
+use iom_base::{AcceptedAccess, AccessKind, DeviceId, PAGE_SIZE};
 use iom_kept_state::KeptState;
 use iom_machine::{Device, Outcome};
-
-fn is_of_kind(access: &Access, kind: AccessKind) -> bool
-    ensures { IsTrue result ↔ (access.now.kind ≡ kind) }
-{
-    access.kind == kind
-}
 
 /// Whether the access is one of this kind that its device may make.
 fn may_make(kept: &KeptState, id: DeviceId, made: &AcceptedAccess, kind: AccessKind) -> bool
     ensures { (h : History) → IsPastOf kept.now.grants h → IsTrue result ↔ ((made.now.access.kind ≡ kind) × May h id made.now.frame kind) }
 {
     let page = made.access.address / PAGE_SIZE;
-    is_of_kind(&made.access, kind) && kept.grants.may(id, page, made.frame, kind)
+    made.access.kind == kind && kept.grants.may(id, page, made.frame, kind)
 }
 
 /// Whether the access is a read that its device may make, and gives these bytes.

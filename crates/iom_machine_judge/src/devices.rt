@@ -13,16 +13,8 @@ pub(crate) fn place_of(devices: &[Device], id: DeviceId) -> Option<usize>
 {
     match devices {
         [] => None,
-        [device, others @ ..] => {
-            if device.id == id {
-                Some(0)
-            } else {
-                match place_of(others, id) {
-                    None => None,
-                    Some(place) => Some(place + 1),
-                }
-            }
-        }
+        [device, ..] if device.id == id => Some(0),
+        [_, others @ ..] => Some(place_of(others, id)? + 1),
     }
 }
 
@@ -117,22 +109,14 @@ pub(crate) fn take_oldest(devices: &mut Sequence<Device>, place: usize) -> Accep
     device.in_flight.pop_front()
 }
 
-/// The first id above those that a device directory of so many levels names.
-fn first_id_above(levels: u8) -> u32
-    ensures { result ≡ id_limit levels }
-{
-    if levels == 1 {
-        1 << 7
-    } else if levels == 2 {
-        1 << 16
-    } else {
-        1 << 24
-    }
-}
-
 /// Whether the device directory can't name the id.
 pub(crate) fn too_wide(kept: &KeptState, id: DeviceId) -> bool
     ensures { result ≡ nat_le (id_limit kept.now.levels) id }
 {
-    id >= first_id_above(kept.levels)
+    let limit = match kept.levels {
+        1 => 1 << 7,
+        2 => 1 << 16,
+        _ => 1 << 24,
+    };
+    id >= limit
 }

@@ -1,6 +1,6 @@
 // Which tickets a poll may confirm, and which tables it may give back.
 ghost use Rattle.std.specs.Prelude.{◌≡◌, ◌↔◌, ◌+◌, ◌-◌, ◌<◌, ◌≤◌, ℕ, suc, false, IfOk, IsTrue, All};
-ghost use Rattle.iom_machine_judge.specs.Words.{History, May, confirms, confirmed_from, DeviceMay, AreNextTickets, ArePending, MayConfirm, Polls, MayGiveBack, with_returned, IsPastOf, state_of, Decides};
+ghost use Rattle.iom_machine_judge.specs.Words.{History, May, confirms, confirmed_from, DeviceMay, AreNextTickets, ArePending, MayConfirm, Polls, IsPastOf, state_of, Decides};
 
 use crate::line::Decided;
 use iom_base::{AcceptedAccess, DeviceId, PAGE_SIZE};
@@ -87,17 +87,6 @@ pub fn may_confirm(kept: &KeptState, first: u32, last: u32) -> bool
     are_next_tickets(kept, first, last) || !kept.limits.in_order && are_pending(kept, first, last)
 }
 
-/// Whether these tables may be given back where no ticket is confirmed; the next state is then kept.
-fn judge_returns(kept: &mut KeptState, returned: &[u64]) -> bool
-    ensures { Decides result kept.old kept.new (λ before after. All (MayGiveBack before) returned.now × (after ≡ with_returned returned.now before)) }
-{
-    if !kept.may_give_back_all(returned) {
-        return false;
-    }
-    kept.give_back(returned);
-    true
-}
-
 /// Whether a poll may come so; the next state is then kept.
 pub(crate) fn judge_poll(kept: &mut KeptState, outcome: &Outcome, choice: &Choice) -> Decided
     ensures { IfOk result (λ may. Decides may kept.old kept.new (λ before after. Polls choice.now.returned before outcome.now after)) }
@@ -114,7 +103,14 @@ pub(crate) fn judge_poll(kept: &mut KeptState, outcome: &Outcome, choice: &Choic
             kept.take_leave()?;
             Ok(true)
         }
-        Outcome::NoneConfirmed { .. } => Ok(judge_returns(kept, choice.returned.as_slice())),
+        Outcome::NoneConfirmed { .. } => {
+            let returned = choice.returned.as_slice();
+            if !kept.may_give_back_all(returned) {
+                return Ok(false);
+            }
+            kept.give_back(returned);
+            Ok(true)
+        }
         _ => Ok(false),
     }
 }

@@ -22,12 +22,7 @@ pub(crate) fn judge_poke(
     let first = poke_refusal(kept, address / PAGE_SIZE);
     match outcome {
         Outcome::BadSpan => Ok(!fits),
-        Outcome::Refused(why) => {
-            if !fits {
-                return Ok(false);
-            }
-            Ok(refuses(first, false, *why))
-        }
+        Outcome::Refused(why) => Ok(fits && refuses(first, false, *why)),
         Outcome::Done => {
             if !fits || first.is_some() {
                 return Ok(false);

@@ -1,6 +1,6 @@
 // What a device may be told that asks for the translation of a page.
-ghost use Rattle.std.specs.Prelude.{◌≡◌, ◌↔◌, IsTrue, IsSomeAnd, Some, true};
-ghost use Rattle.iom_machine_judge.specs.Words.{IsPastOf, state_of, DecidesUnchanged, History, Lingers, May, Attached, device_of, Delivers, LingersSomewhere, MayShow, IsForEachKind, MayTellFormerly, MayTellUnderTicket, MayTell};
+ghost use Rattle.std.specs.Prelude.{◌≡◌, ◌↔◌, IsTrue, Some, true};
+ghost use Rattle.iom_machine_judge.specs.Words.{IsPastOf, state_of, DecidesUnchanged, History, Lingers, May, Attached, Delivers, LingersSomewhere, MayShow, IsForEachKind, MayTellFormerly, MayTellUnderTicket, MayTell};
 ghost use Rattle.iom_fabric.specs.declared.message.Translation.TheVariants.{Refused};
 
 use crate::under_ticket::{cause_without_context, is_page_fault_of, is_page_fault_of_either};
@@ -48,32 +48,19 @@ fn may_show(grants: &KeptGrants, id: DeviceId, page: u64, frame: u64, rights: Ri
 fn may_each(grants: &KeptGrants, id: DeviceId, page: u64, frame: u64, rights: Rights) -> bool
     ensures { (h : History) → IsPastOf grants.now h → IsTrue result ↔ IsForEachKind rights (May h id frame) }
 {
-    if !rights.allows(AccessKind::Read) {
-        return false;
-    }
-    if !grants.may(id, page, frame, AccessKind::Read) {
-        return false;
-    }
-    if !rights.allows(AccessKind::Write) {
-        return true;
-    }
-    grants.may(id, page, frame, AccessKind::Write)
+    rights.allows(AccessKind::Read)
+        && grants.may(id, page, frame, AccessKind::Read)
+        && (!rights.allows(AccessKind::Write) || grants.may(id, page, frame, AccessKind::Write))
 }
 
 /// Whether the frame lingers somewhere for each kind of access that the rights allow.
 fn lingers_each(grants: &KeptGrants, id: DeviceId, frame: u64, rights: Rights) -> bool
     ensures { (h : History) → IsPastOf grants.now h → IsTrue result ↔ IsForEachKind rights (LingersSomewhere h id frame) }
 {
-    if !rights.allows(AccessKind::Read) {
-        return false;
-    }
-    if !grants.lingers_somewhere(id, frame, AccessKind::Read) {
-        return false;
-    }
-    if !rights.allows(AccessKind::Write) {
-        return true;
-    }
-    grants.lingers_somewhere(id, frame, AccessKind::Write)
+    rights.allows(AccessKind::Read)
+        && grants.lingers_somewhere(id, frame, AccessKind::Read)
+        && (!rights.allows(AccessKind::Write)
+            || grants.lingers_somewhere(id, frame, AccessKind::Write))
 }
 
 /// Whether a device may be told so as in its former mode, with ATS.
@@ -154,26 +141,10 @@ pub fn may_tell(
 {
     match attachment {
         Attachment::Detached => is_refused_with(reply, cause_without_context(kept, id)),
-        Attachment::Attached { mode, ats } => {
-            if ats {
-                tells_attached(mode, kept, id, page, reply)
-            } else {
-                is_refused_with(reply, Cause::TransactionTypeDisallowed)
-            }
-        }
+        Attachment::Attached { mode, ats: true } => tells_attached(mode, kept, id, page, reply),
+        Attachment::Attached { .. } => is_refused_with(reply, Cause::TransactionTypeDisallowed),
         Attachment::Quarantined { ticket, mode, ats } | Attachment::Leaving { ticket, mode, ats } =>
             { tells_under_ticket(ticket, mode, ats, kept, id, page, reply) }
-    }
-}
-
-/// Whether the question of the device for the page may be answered so.
-fn is_told(kept: &KeptState, asker: DeviceId, page: u64, reply: Translation) -> bool
-    ensures { (h : History) → IsPastOf kept.now.grants h → IsTrue result ↔ IsSomeAnd (device_of (state_of kept.now h) asker)
-        (λ device. MayTell device.attachment (state_of kept.now h) device.id page reply) }
-{
-    match kept.device(asker) {
-        None => false,
-        Some(device) => may_tell(device.attachment, kept, device.id, page, reply),
     }
 }
 
@@ -182,7 +153,10 @@ pub(crate) fn judge_deliver(kept: &KeptState, outcome: &Outcome, choice: &Choice
     ensures { DecidesUnchanged result kept.now (λ before after. Delivers choice.now.device choice.now.page before outcome.now after) }
 {
     match outcome {
-        Outcome::Answered(reply) => is_told(kept, choice.device, choice.page, *reply),
+        Outcome::Answered(reply) => match kept.device(choice.device) {
+            None => false,
+            Some(device) => may_tell(device.attachment, kept, device.id, choice.page, *reply),
+        },
         Outcome::Kept
         | Outcome::Stale
         | Outcome::AnswerRefused

@@ -1,7 +1,7 @@
 // The first refusal that applies.
 ghost use Rattle.std.specs.Prelude.{◌≡◌, ◌↔◌, ◌<◌, ◌^◌, ◌&&◌, ◌||◌, ◌==◌, false, find, not, nat_le, is_some, IsTrue, IsNone, IsSome, MatchOption, None};
 ghost use Rattle.iom_machine_judge.specs.Words.{option_copied, option_map_or, has_cache, first_that_applies, History, plug_reasons, attach_reasons, detach_reasons, grant_reasons, release_reasons, quarantine_reasons, revive_reasons, frame_reasons};
-ghost use Rattle.iom_machine_judge.specs.Words.{poke_reasons, attachment_of, is_detached, is_leaving, is_quarantined, may_still_reach, table_limit_at, is_held, is_lingering, has_grants, pending_tickets, IsPastOf, held_by, lingering_by, state_of};
+ghost use Rattle.iom_machine_judge.specs.Words.{poke_reasons, is_detached, is_leaving, is_quarantined, may_still_reach, is_held, is_lingering, pending_tickets, IsPastOf, held_by, lingering_by, state_of};
 
 use crate::devices::too_wide;
 use crate::disks::is_missing;
@@ -58,13 +58,6 @@ fn held(kept: &KeptState, id: DeviceId, page: u64) -> bool
     kept.grants.held(id, page).is_some()
 }
 
-/// Whether the device holds something, or something lingers for it.
-fn still_granted(kept: &KeptState, id: DeviceId) -> bool
-    ensures { (h : History) → IsPastOf kept.now.grants h → result ≡ has_grants (state_of kept.now h) id }
-{
-    kept.grants.has_any(id)
-}
-
 /// Whether the page isn't free for a grant.
 fn busy(kept: &KeptState, id: DeviceId, page: u64) -> bool
     ensures shown { result ≡ (is_some (held_by kept.now.grants id page) || is_some (lingering_by kept.now.grants id page)) }
@@ -73,21 +66,14 @@ fn busy(kept: &KeptState, id: DeviceId, page: u64) -> bool
     held(kept, id, page) || kept.grants.lingering(id, page).is_some()
 }
 
-/// Whether the device has a cache of translations.
-fn trusted(device: Option<&Device>) -> bool
-    ensures { result ≡ option_map_or (λ device. has_cache device.kind) (option_copied device.entry) false }
-{
-    match device {
-        None => false,
-        Some(device) => device.kind.has_cache(),
-    }
-}
-
 /// Whether ATS is asked for, of a device that has no cache of translations.
 fn untrusted(device: Option<&Device>, ats: bool) -> bool
     ensures { result ≡ (ats && not (option_map_or (λ device. has_cache device.kind) (option_copied device.entry) false)) }
 {
-    ats && !trusted(device)
+    match device {
+        None => ats,
+        Some(device) => ats && !device.kind.has_cache(),
+    }
 }
 
 /// The refusal of the first reason that applies.
@@ -132,16 +118,9 @@ pub fn detach_refusal(kept: &KeptState, id: DeviceId) -> Option<Refusal>
         (!plugged(kept, id), Refusal::NoSuchDevice),
         (not_attached(attachment), Refusal::NotAttached),
         (quarantined(attachment), Refusal::Quarantined),
-        (still_granted(kept, id), Refusal::StillGranted),
+        (kept.grants.has_any(id), Refusal::StillGranted),
         (too_many_pending(kept), Refusal::TooManyPending),
     ])
-}
-
-/// The path of a page of the device lacks no more tables than this.
-pub(crate) fn most_tables(kept: &KeptState, id: DeviceId) -> usize
-    ensures { (h : History) → result ≡ table_limit_at (attachment_of (state_of kept.now h) id) }
-{
-    kept.attachment(id).table_limit() as usize
 }
 
 pub fn grant_refusal(kept: &KeptState, id: DeviceId, page: u64, frame: u64) -> Option<Refusal>

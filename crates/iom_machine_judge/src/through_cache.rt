@@ -18,9 +18,7 @@ fn at_frame(access: Access, frame: u64) -> Access
 {
     Access {
         address: frame * PAGE_SIZE + access.address % PAGE_SIZE,
-        len: access.len,
-        kind: access.kind,
-        bytes: access.bytes,
+        ..access
     }
 }
 

@@ -1,26 +1,18 @@
 // What a request may be answered that says it is translated already, and what is found where there is no context.
 ghost use Rattle.std.specs.Prelude.{◌↔◌, IsTrue};
-ghost use Rattle.iom_machine_judge.specs.Words.{state_of, History, MayLackContext, MayFindNoContext, MayFaultTranslated, MayAnswerTranslated};
+ghost use Rattle.iom_machine_judge.specs.Words.{state_of, History, MayFindNoContext, MayFaultTranslated, MayAnswerTranslated};
 
 use crate::requests::{is_busy, is_forwarded, is_same_cause, is_within_page};
 use crate::under_ticket::cause_without_context;
 use iom_base::{Access, Cause};
-use iom_kept_state::KeptState;
-use iom_machine::{Attachment, Device, Outcome};
-
-/// Whether a device that is attached so may have no context.
-fn may_lack_context(attachment: Attachment) -> bool
-    ensures { IsTrue result ↔ MayLackContext attachment }
-{
-    !matches!(attachment, Attachment::Attached { .. })
-}
+use iom_kept_state::{KeptState, is_attached};
+use iom_machine::{Device, Outcome};
 
 /// Whether the IOMMU may find no context of the device, and refuse what it sends with the cause.
 pub(crate) fn may_find_no_context(kept: &KeptState, device: &Device, cause: Cause) -> bool
     ensures { (h : History) → IsTrue result ↔ MayFindNoContext (state_of kept.now h) device.now cause }
 {
-    may_lack_context(device.attachment)
-        && is_same_cause(cause, cause_without_context(kept, device.id))
+    !is_attached(device.attachment) && is_same_cause(cause, cause_without_context(kept, device.id))
 }
 
 fn may_fault(kept: &KeptState, device: &Device, cause: Cause) -> bool

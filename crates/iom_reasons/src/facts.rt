@@ -32,19 +32,16 @@ impl Facts<'_> {
             words.say("a frame that the line shows as taken isn't free")?;
         }
         words.could("ok")?;
-        for why in [Refusal::NoFrames, Refusal::Memory] {
-            let may_refuse = match event {
-                Event::Attach { mode, .. } => may_refuse_attach(self.kept, *mode, why),
-                Event::Grant { device, frame, .. } => {
-                    may_refuse_grant(self.kept, *device, *frame, why)
-                }
-                _ => false,
-            };
-            if may_refuse {
-                words.could(why)?;
-            }
+        let why = Refusal::NoFrames;
+        let lacks_frames = match event {
+            Event::Attach { mode, .. } => may_refuse_attach(self.kept, *mode, why),
+            Event::Grant { device, frame, .. } => may_refuse_grant(self.kept, *device, *frame, why),
+            _ => false,
+        };
+        if lacks_frames {
+            words.could(why)?;
         }
-        Ok(())
+        words.could(Refusal::Memory)
     }
 
     /// Says what a call could have been answered that gives a ticket, and that nothing forbids.

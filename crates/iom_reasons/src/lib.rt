@@ -15,5 +15,6 @@ mod pages;
 mod past;
 mod words;
 
+pub use accesses::requester;
 pub use facts::Facts;
 pub use notes::{Notes, Sent};

@@ -76,21 +76,18 @@ fn tell(rt: &HostRuntime, name: &str, verdict: &Verdict) -> io::Result<u8> {
     Ok(status)
 }
 
-/// Prints how many lines were left out, behind which no other was found that can't have come.
-fn tell_count(rt: &HostRuntime, count: usize) -> io::Result<u8> {
-    let lines = if count == 1 { "line is" } else { "lines are" };
-    println!(rt; "{count} {lines} unlawful")?;
-    Ok(NOT_LAWFUL)
-}
-
-/// Prints all that is found, one after another, and gives the exit status.
+/// Prints all that is found, one after another, and gives the exit status. Where nothing more was found behind lines that were left
+/// out, it prints how many they were.
 fn tell_all(rt: &HostRuntime, name: &str, found: &Findings) -> io::Result<u8> {
     let mut status = tell(rt, name, &found.first)?;
     for (index, verdict) in found.others.iter().enumerate() {
-        status = match verdict {
-            Verdict::Lawful => tell_count(rt, index.saturating_add(1))?,
-            verdict => tell(rt, name, verdict)?,
-        };
+        if !matches!(verdict, Verdict::Lawful) {
+            status = tell(rt, name, verdict)?;
+            continue;
+        }
+        let count = index.saturating_add(1);
+        let lines = if count == 1 { "line is" } else { "lines are" };
+        println!(rt; "{count} {lines} unlawful")?;
     }
     Ok(status)
 }
@@ -113,12 +110,6 @@ fn judge<R: Read + Drop>(
     }
 }
 
-/// Writes the text, and gives the exit status.
-fn print(rt: &HostRuntime, text: &str) -> io::Result<u8> {
-    rt.stdout().write_all(text.as_bytes())?;
-    Ok(LAWFUL)
-}
-
 /// Judges the trace in the file that the words name, or the one on standard input. Where that is a terminal, nobody wrote one there:
 /// what is wanted is said.
 fn judge_named(rt: &HostRuntime, words: &[String], most: usize) -> io::Result<u8> {
@@ -135,14 +126,16 @@ fn judge_named(rt: &HostRuntime, words: &[String], most: usize) -> io::Result<u8
 
 /// Does what the words ask for, and gives the exit status. It fails where standard output can't be written.
 fn run(rt: &HostRuntime, words: &[String]) -> io::Result<u8> {
-    match words {
-        [word] if word.as_str() == "--help" => print(rt, HELP),
-        [word] if word.as_str() == "--version" => print(rt, VERSION),
+    let text = match words {
+        [word] if word.as_str() == "--help" => HELP,
+        [word] if word.as_str() == "--version" => VERSION,
         [flag, words @ ..] if flag.as_str() == "--keep-going" => {
-            judge_named(rt, words, MOST_LEFT_OUT)
+            return judge_named(rt, words, MOST_LEFT_OUT);
         }
-        words => judge_named(rt, words, 0),
-    }
+        words => return judge_named(rt, words, 0),
+    };
+    rt.stdout().write_all(text.as_bytes())?;
+    Ok(LAWFUL)
 }
 
 fn main(rt: HostRuntime) -> ExitCode {

@@ -1,7 +1,9 @@
-use Rattle.std.proofs.Common.{◌∙◌, refl, sym, subst}
+use Rattle.std.proofs.Common.{◌∙◌, All, refl, sym, subst}
 use Rattle.std.proofs.lemmas.Bool.{false≢true}
 use Rattle.iom_kept_state.specs.declared.grants.KeptGrants.{KeptGrants}
 use Rattle.iom_kept_state.specs.Grants.{IsPastOf}
+use Rattle.iom_machine.specs.Returning.{MayGiveBack, with_returned}
+use Rattle.iom_machine_judge.proofs.DecidedLemmas.{comes, never_comes}
 use Rattle.iom_machine_judge.proofs.NextLemmas.{history_once, polled_as, not_polled_as}
 use Rattle.iom_machine_judge.proofs.polls.judge_poll.Goals as goal
 
@@ -33,5 +35,13 @@ returns-in_ok-take_leave-in-Confirmed c =
           (c.in_ok-take_leave-in-Confirmed.ensures.left now confirmed),
     ))
 
-pub returns-in-NoneConfirmed : goal.returns-in-NoneConfirmed
-returns-in-NoneConfirmed c = rw c.in-NoneConfirmed.is (rw c.as_slice-in-NoneConfirmed.ensures at c.judge_returns.ensures)
+pub returns-then-not-may_give_back_all : goal.returns-then-not-may_give_back_all
+returns-then-not-may_give_back_all c = rw c.in-NoneConfirmed.is
+    (never_comes c.args.kept.now (λ before. All (MayGiveBack before) c.args.choice.now.returned) (with_returned c.args.choice.now.returned)
+    (λ h past all. false≢true (sym c.if-not-may_give_back_all.true ∙ (rw c.as_slice-returned.ensures at (c.may_give_back_all.ensures h past)).1 all)))
+
+pub returns-else-not-may_give_back_all : goal.returns-else-not-may_give_back_all
+returns-else-not-may_give_back_all c = rw c.in-NoneConfirmed.is
+    (comes c.args.kept.now c.give_back.new.self (λ before. All (MayGiveBack before) c.args.choice.now.returned) (with_returned c.args.choice.now.returned) c.give_back.ensures.grants
+    (λ h past. (rw c.as_slice-returned.ensures at (c.may_give_back_all.ensures h past)).0 c.if-not-may_give_back_all.false)
+    (λ h past. rw c.as_slice-returned.ensures at (c.give_back.ensures.returned h)))
