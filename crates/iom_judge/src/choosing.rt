@@ -9,7 +9,7 @@ use iom_base::{Access, AccessKind, Cause, DeviceId, Mode, PAGE_SIZE, Sequence};
 use iom_fabric::Translation;
 use iom_kept_state::KeptState;
 use iom_machine::{Choice, Event, Outcome};
-use iom_reasons::{Notes, Sent, requester};
+use iom_reasons::{Notes, Sent};
 use std::alloc::{AllocError, Global};
 
 /// Which frames a line shows as tables, where it does.
@@ -154,19 +154,37 @@ fn page_told(kept: &KeptState, id: DeviceId, reply: Translation) -> u64 {
     page_without(kept, id)
 }
 
-/// The address and the kind of the access that is asked for, where they are shown.
-fn asked_for(reply: &Reported<'_>) -> Option<(u64, AccessKind)> {
+/// What asks for an access at an address of its device: the device, and the address and kind where they are shown.
+fn asked_by(reply: &Reported<'_>) -> Option<(DeviceId, Option<(u64, AccessKind)>)> {
     match reply.event {
-        Event::Read { address, .. } | Event::ReadThroughCache { address, .. } => {
-            Some((*address, AccessKind::Read))
+        Event::Read {
+            device,
+            address,
+            ..
         }
-        Event::Write { address, .. } | Event::WriteThroughCache { address, .. } => {
-            Some((*address, AccessKind::Write))
+        | Event::ReadThroughCache {
+            device,
+            address,
+            ..
+        } => Some((*device, Some((*address, AccessKind::Read)))),
+        Event::Write {
+            device,
+            address,
+            ..
         }
-        _ => {
-            let access = reply.shown.began?;
-            Some((access.address, access.kind))
-        }
+        | Event::WriteThroughCache {
+            device,
+            address,
+            ..
+        } => Some((*device, Some((*address, AccessKind::Write)))),
+        Event::Step { device } => Some((
+            *device,
+            match reply.shown.began {
+                Some(access) => Some((access.address, access.kind)),
+                None => None,
+            },
+        )),
+        _ => None,
     }
 }
 
@@ -246,7 +264,7 @@ impl Chosen {
         reply: &Reported<'_>,
         number: u64,
     ) {
-        let Some(device) = requester(reply.event) else {
+        let Some((device, access)) = asked_by(reply) else {
             return;
         };
         let begun = Begun {
@@ -254,7 +272,7 @@ impl Chosen {
             number,
             line: line.number,
         };
-        match asked_for(reply) {
+        match access {
             None => self.choose_access(line.alloc, kept, begun, reply.shown.on),
             Some(_) if reply.shown.on.is_some() => {}
             Some((address, kind)) => self.choose_frame(kept, begun, address, kind),

@@ -13,7 +13,7 @@ use iom_machine_judge::{questions, requests, through_cache, translated};
 use iom_trace_lines::CAUSES;
 
 /// The device whose access to memory the event may begin, if it may.
-pub fn requester(event: &Event) -> Option<DeviceId> {
+pub(crate) fn requester(event: &Event) -> Option<DeviceId> {
     match event {
         Event::Read { device, .. }
         | Event::Write { device, .. }

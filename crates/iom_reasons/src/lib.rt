@@ -15,6 +15,5 @@ mod pages;
 mod past;
 mod words;
 
-pub use accesses::requester;
 pub use facts::Facts;
 pub use notes::{Notes, Sent};
