@@ -1,5 +1,5 @@
 -- Devices that share a domain.
-use Rattle.std.proofs.Common.{◌≡◌, ◌∙◌, ℕ, Bool, List, [], ◌∷◌, ◌++◌, Option, None, Some, is_some, false, IsTrue, map, refl, sym, ap, subst, drop, take, slice_get, slice_index_or, ◌<◌, ◌-◌, nat_eq, length, arith}
+use Rattle.std.proofs.Common.{◌≡◌, ◌∙◌, ℕ, Bool, List, [], ◌∷◌, ◌++◌, Option, None, Some, IsTrue, map, refl, sym, ap, subst, drop, take, slice_get, slice_index_or, ◌<◌, ◌-◌, nat_eq, length, arith}
 use Rattle.std.specs.Map.{lookup}
 use Rattle.iom_base.specs.declared.grant_rights.GrantRights.{GrantRights}
 use Rattle.iom_machine.specs.declared.choice.Choice.{Choice}
@@ -24,10 +24,6 @@ pub for_sharers : (old new : TraceMachine) (device : ℕ) (devices : List ℕ) (
     → devices ≡ sharers (first_in old.domains) old.kept.devices device → Continues old others new → Continues old (Shared device devices ∷ others) new
 for_sharers old new device devices others are goes =
     λ history past. let after = goes history past in (after.0, after.1, (trace_state old history, (are, refl), after.2))
-
-pub none_if_not_some : (o : Option ℕ) → is_some o ≡ false → o ≡ None
-none_if_not_some None e = refl
-none_if_not_some (Some it) e = cc
 
 -- Nothing is found where there is nothing.
 pub nothing_found : (firsts : List (ℕ × ℕ)) (device : ℕ) → length firsts ≡ 0 → lookup (nat_eq device) firsts ≡ None

@@ -119,21 +119,37 @@ fn shown_at(has_tables: bool, tables: &[u64], index: u64) -> Shown<'_>
 }
 
 impl TraceMachine {
-    /// This came of the event, and of no other device's with it, and this is shown of it.
-    pub(crate) fn go_on_showing<'x>(
+    /// This came of the event, of which nothing is shown.
+    pub(crate) fn go_on_unshown<'x>(
         &mut self,
         line: &Line<'_>,
         event: &'x Event,
         outcome: &'x Outcome,
-        shown: Shown<'x>,
     ) -> Judged
-        ensures { OnOk result ((choice : spec_choice.Choice) × ShowsChoice shown.entry event.now choice
+        ensures { OnOk result ((choice : spec_choice.Choice) × Continues self.old (Came event.now outcome.now choice ∷ []) self.new) }
+    {
+        let reply = Reported {
+            event,
+            outcome,
+            shown: NOTHING,
+        };
+        self.go_on_alone(line, &reply)
+    }
+
+    /// This came of the event of one device more, which took no tables.
+    pub(crate) fn go_on_without_tables<'x>(
+        &mut self,
+        line: &Line<'_>,
+        event: &'x Event,
+        outcome: &'x Outcome,
+    ) -> Judged
+        ensures { OnOk result ((choice : spec_choice.Choice) × (choice.taken ≡ [])
             × Continues self.old (Came event.now outcome.now choice ∷ []) self.new) }
     {
         let reply = Reported {
             event,
             outcome,
-            shown,
+            shown: WITHOUT_TABLES,
         };
         self.go_on_alone(line, &reply)
     }
@@ -152,8 +168,7 @@ impl TraceMachine {
         match devices {
             [] => Ok(()),
             [device, others @ ..] => {
-                let event = change.event_of(*device);
-                self.go_on_showing(line, &event, outcome, WITHOUT_TABLES)?;
+                self.go_on_without_tables(line, &change.event_of(*device), outcome)?;
                 self.change_these(line, others, change, outcome)
             }
         }

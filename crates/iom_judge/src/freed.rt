@@ -3,7 +3,7 @@ ghost use Rattle.std.specs.Prelude.{OnOk};
 ghost use Rattle.iom_trace_lines.specs.TraceLines.{TablesFreed};
 ghost use Rattle.iom_judge.specs.Certified.{ContinuesAs};
 
-use crate::choosing::{NOTHING, Shown};
+use crate::choosing::{NOTHING, Reported, Shown};
 use crate::machine::TraceMachine;
 use crate::stop::{Judged, Line};
 use iom_base::Owner;
@@ -48,7 +48,11 @@ impl TraceMachine {
             freed: tables,
             ..NOTHING
         };
-        let none = Outcome::NoneConfirmed { timed_out: false };
-        self.go_on_showing(line, &Event::Poll, &none, shown)
+        let reply = Reported {
+            event: &Event::Poll,
+            outcome: &Outcome::NoneConfirmed { timed_out: false },
+            shown,
+        };
+        self.go_on_alone(line, &reply)
     }
 }

@@ -4,7 +4,6 @@ ghost use Rattle.iom_trace_lines.specs.TraceLines.{Made};
 ghost use Rattle.iom_judge.specs.Certified.{ContinuesAs};
 ghost use Rattle.iom_judge.specs.Happenings.{MayBeTold};
 
-use crate::choosing::NOTHING;
 use crate::machine::TraceMachine;
 use crate::stop::{Judged, Line};
 use arrayvec::ArrayVec;
@@ -49,6 +48,6 @@ impl TraceMachine {
         ensures { OnOk result (ContinuesAs self.old (Made device is_read) [] self.new) }
     {
         let made = made_now(&self.kept, device, is_read);
-        self.go_on_showing(line, &Event::Commit { device }, &made, NOTHING)
+        self.go_on_unshown(line, &Event::Commit { device }, &made)
     }
 }

@@ -13,8 +13,7 @@ ghost use Rattle.iom_judge.specs.Certified.{trace_state, Continues, ContinuesAs,
 ghost use Rattle.iom_judge.specs.Happenings.{Came, Joined};
 ghost use Rattle.iom_judge.specs.Sharing.{first_of, MayShare};
 
-use crate::changes::WITHOUT_TABLES;
-use crate::choosing::{NOTHING, Shown, Tables, where_shown};
+use crate::choosing::{NOTHING, Reported, Shown, Tables, where_shown};
 use crate::machine::TraceMachine;
 use crate::missing::Missing;
 use crate::stop::{Judged, Line, Stop};
@@ -45,12 +44,16 @@ impl TraceMachine {
         ensures { (h : History) → IsPastOf self.now.kept.grants h → IsTrue result → MayShare (trace_state self.now h) device first }
     {
         let kept = &self.kept;
-        if kept.limits.in_order
-            || device == first
-            || self.domains.first_with(first).is_some()
-            || !kept.device_may_give_back(first)
-            || !have_one_mode(kept.attachment(device), kept.attachment(first))
-        {
+        if kept.limits.in_order || device == first {
+            return false;
+        }
+        if let Some(_another) = self.domains.first_with(first) {
+            return false;
+        }
+        if !kept.device_may_give_back(first) {
+            return false;
+        }
+        if !have_one_mode(kept.attachment(device), kept.attachment(first)) {
             return false;
         }
         kept.grants.hold_the_same(device, first)
@@ -97,16 +100,54 @@ impl TraceMachine {
         })
     }
 
+    /// The device is granted what this first one holds at the page with the index.
+    fn grant_held_at(
+        &mut self,
+        line: &Line<'_>,
+        device: DeviceId,
+        first: DeviceId,
+        index: usize,
+    ) -> Judged
+        ensures { OnOk result (ContinuesByHeld self.old device self.new) }
+    {
+        match self.grant_of_held(device, first, index) {
+            None => Ok(()),
+            Some(event) => self.go_on_without_tables(line, &event, &Outcome::Done),
+        }
+    }
+
     /// The device is granted what this first one holds.
     fn grant_held(&mut self, line: &Line<'_>, device: DeviceId, first: DeviceId) -> Judged
         ensures { OnOk result (ContinuesByHeld self.old device self.new) }
     {
         for index in 0..self.kept.grants.page_count(first) {
-            if let Some(grant) = self.grant_of_held(device, first, index) {
-                self.go_on_showing(line, &grant, &Outcome::Done, WITHOUT_TABLES)?;
-            }
+            self.grant_held_at(line, device, first, index)?;
         }
         Ok(())
+    }
+
+    /// The device is attached in the mode, without tables of its own.
+    fn attach_without_tables(
+        &mut self,
+        line: &Line<'_>,
+        device: DeviceId,
+        mode: Mode,
+        ats: bool,
+        pages: Option<&[u64]>,
+    ) -> Judged
+        ensures { OnOk result ((choice : spec_choice.Choice) × (choice.taken ≡ []) × IfSome pages.entry (λ it. choice.directory ≡ it.now)
+            × Continues self.old (Came (events.Attach device mode ats) outcomes.Done choice ∷ []) self.new) }
+    {
+        let shown = Shown {
+            tables: Tables::OfAnother(pages),
+            ..NOTHING
+        };
+        let reply = Reported {
+            event: &Event::Attach { device, mode, ats },
+            outcome: &Outcome::Done,
+            shown,
+        };
+        self.go_on_alone(line, &reply)
     }
 
     /// The mode in which the device is attached, whose domain another may have.
@@ -118,7 +159,8 @@ impl TraceMachine {
         if let Attachment::Attached { mode, .. } = self.kept.attachment(with) {
             return Ok(mode);
         }
-        let reason = format!(in line.alloc; "{with:06x} isn't attached")?;
+        let alloc = line.alloc;
+        let reason = format!(in alloc; "{with:06x} isn't attached")?;
         Err(line.unlawful(&reason)?)
     }
 
@@ -137,12 +179,8 @@ impl TraceMachine {
     {
         let mode = self.mode_to_share(line, with)?;
         let first = self.domains.first_of(with);
-        let shown = Shown {
-            tables: Tables::OfAnother(where_shown(has_tables, tables)),
-            ..NOTHING
-        };
-        let attach = Event::Attach { device, mode, ats };
-        self.go_on_showing(line, &attach, &Outcome::Done, shown)?;
+        let pages = where_shown(has_tables, tables);
+        self.attach_without_tables(line, device, mode, ats, pages)?;
         self.grant_held(line, device, first)?;
         self.share(line, device, with)
     }

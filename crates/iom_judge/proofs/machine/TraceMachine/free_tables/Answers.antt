@@ -7,6 +7,6 @@ use Rattle.iom_judge.proofs.machine.TraceMachine.free_tables.Goals as goal
 
 pub returns : goal.returns
 returns c =
-    if_ok c.go_on_showing.result _ _
+    if_ok c.go_on_alone.result _ _
     (λ went. (Came events.Poll (outcomes.NoneConfirmed false) went.0 ∷ [], (went.0, went.1.returned, refl), went.2))
-    c.go_on_showing.ensures
+    c.go_on_alone.ensures

@@ -1,6 +1,5 @@
 use Rattle.std.proofs.Common.{◌∙◌, ap, sym}
 use Rattle.iom_machine.specs.Refusals.{mode_at}
-use Rattle.iom_judge.proofs.SharingLemmas.{none_if_not_some}
 use Rattle.iom_judge.proofs.machine.TraceMachine.may_share.Goals as goal
 
 pub returns : goal.returns
@@ -8,7 +7,7 @@ returns c = λ h past same.
     let settled = (c.device_may_give_back.ensures h past).0 c.if-not-device_may_give_back.false in record {
       unlimited = c.if-kept.false;
       another = c.if-device-first.false;
-      first_itself = sym c.first_with.ensures ∙ none_if_not_some c.first_with.result (sym c.is_some.ensures ∙ c.if-is_some.false);
+      first_itself = sym (rw c.in_default.is at c.first_with.ensures);
       attached = settled.0;
       mode = ap mode_at (sym (c.attachment.ensures h)) ∙ c.have_one_mode.ensures c.if-not-have_one_mode.false ∙ ap mode_at (c.attachment-2.ensures h);
       same = (c.hold_the_same.ensures h past).0 same;
