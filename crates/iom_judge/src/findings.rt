@@ -27,6 +27,24 @@ fn is_left_out(verdict: &Verdict) -> bool {
     )
 }
 
+/// Adds what is found behind a line that was left out, until so many more are.
+fn judge_rest<R: Read>(
+    judge: &mut Judge,
+    reader: &mut R,
+    most: usize,
+    found: &mut Vec<Verdict>,
+) -> io::Result<()> {
+    for _ in 0..most {
+        let verdict = judge.judge_lines(reader)?;
+        let goes_on = is_left_out(&verdict);
+        found.push(verdict)?;
+        if !goes_on {
+            break;
+        }
+    }
+    Ok(())
+}
+
 /// What the judge finds of the trace that the reader has. A line that is unlawful is left out, and those behind it are judged
 /// as if it weren't there, until so many were left out; any other verdict ends the judging. Of a line of several events those
 /// that came before the unlawful one aren't left out. Nothing is certified of what stands behind a line that was left out.
@@ -34,13 +52,11 @@ pub fn judge_on<R: Read>(alloc: Global, reader: &mut R, most: usize) -> io::Resu
     ensures { IfOk result (λ found. IfSome (R.remaining reader.old) (IsSoOf found.first)) }
 {
     let mut judge = Judge::new(alloc)?;
-    let first = judge.judge_lines(reader)?;
-    let mut others = Vec::new(alloc);
-    for _ in 0..most {
-        if !is_left_out(others.last().unwrap_or(&first)) {
-            break;
-        }
-        others.push(judge.judge_lines(reader)?)?;
-    }
-    Ok(Findings { first, others })
+    let mut found = Findings {
+        first: judge.judge_lines(reader)?,
+        others: Vec::new(alloc),
+    };
+    let most = if is_left_out(&found.first) { most } else { 0 };
+    judge_rest(&mut judge, reader, most, &mut found.others)?;
+    Ok(found)
 }
