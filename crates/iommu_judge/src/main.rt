@@ -76,18 +76,21 @@ fn tell(rt: &HostRuntime, name: &str, verdict: &Verdict) -> io::Result<u8> {
     Ok(status)
 }
 
-/// Prints all that is found, one after another, and gives the exit status. Where nothing more was found behind lines that were left
-/// out, it prints how many they were.
+/// Prints how many lines were left out, behind which no other was found that can't have come.
+fn tell_count(rt: &HostRuntime, count: usize) -> io::Result<u8> {
+    let lines = if count == 1 { "line is" } else { "lines are" };
+    println!(rt; "{count} {lines} unlawful")?;
+    Ok(NOT_LAWFUL)
+}
+
+/// Prints all that is found, one after another, and gives the exit status.
 fn tell_all(rt: &HostRuntime, name: &str, found: &Findings) -> io::Result<u8> {
     let mut status = tell(rt, name, &found.first)?;
     for (index, verdict) in found.others.iter().enumerate() {
-        if !matches!(verdict, Verdict::Lawful) {
-            status = tell(rt, name, verdict)?;
-            continue;
-        }
-        let count = index.saturating_add(1);
-        let lines = if count == 1 { "line is" } else { "lines are" };
-        println!(rt; "{count} {lines} unlawful")?;
+        status = match verdict {
+            Verdict::Lawful => tell_count(rt, index.saturating_add(1))?,
+            verdict => tell(rt, name, verdict)?,
+        };
     }
     Ok(status)
 }
@@ -110,6 +113,12 @@ fn judge<R: Read + Drop>(
     }
 }
 
+/// Writes the text, and gives the exit status.
+fn print(rt: &HostRuntime, text: &str) -> io::Result<u8> {
+    rt.stdout().write_all(text.as_bytes())?;
+    Ok(LAWFUL)
+}
+
 /// Judges the trace in the file that the words name, or the one on standard input. Where that is a terminal, nobody wrote one there:
 /// what is wanted is said.
 fn judge_named(rt: &HostRuntime, words: &[String], most: usize) -> io::Result<u8> {
@@ -126,16 +135,14 @@ fn judge_named(rt: &HostRuntime, words: &[String], most: usize) -> io::Result<u8
 
 /// Does what the words ask for, and gives the exit status. It fails where standard output can't be written.
 fn run(rt: &HostRuntime, words: &[String]) -> io::Result<u8> {
-    let text = match words {
-        [word] if word.as_str() == "--help" => HELP,
-        [word] if word.as_str() == "--version" => VERSION,
+    match words {
+        [word] if word.as_str() == "--help" => print(rt, HELP),
+        [word] if word.as_str() == "--version" => print(rt, VERSION),
         [flag, words @ ..] if flag.as_str() == "--keep-going" => {
-            return judge_named(rt, words, MOST_LEFT_OUT);
+            judge_named(rt, words, MOST_LEFT_OUT)
         }
-        words => return judge_named(rt, words, 0),
-    };
-    rt.stdout().write_all(text.as_bytes())?;
-    Ok(LAWFUL)
+        words => judge_named(rt, words, 0),
+    }
 }
 
 fn main(rt: HostRuntime) -> ExitCode {

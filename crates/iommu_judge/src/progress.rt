@@ -5,30 +5,17 @@ use std::io::{self, IsTerminal, Read};
 /// So many lines are read from one word to the next.
 const LINES_BETWEEN: u64 = 10_000_000;
 
-/// A reader of the trace that has this name. Where somebody watches, it says how many lines were read, every ten million.
+/// How many lines of what has this name were read.
 #[derive(Drop)]
-pub(crate) struct Watched<'a, R> {
+struct Progress<'a> {
     rt: &'a HostRuntime,
     name: &'a str,
-    inner: R,
-    is_watched: bool,
     lines: u64,
     /// The number of lines at which the next word is due.
     due: u64,
 }
 
-impl<'a, R> Watched<'a, R> {
-    pub(crate) fn new(rt: &'a HostRuntime, name: &'a str, inner: R) -> Watched<'a, R> {
-        Watched {
-            rt,
-            name,
-            inner,
-            is_watched: rt.stderr().is_terminal(),
-            lines: 0,
-            due: LINES_BETWEEN,
-        }
-    }
-
+impl Progress<'_> {
     /// Counts the lines that end in these bytes. Where standard error can't be written nothing is said.
     fn note(&mut self, bytes: &[u8]) {
         let ended = memchr_iter(b'\n', bytes).count() as u64;
@@ -41,13 +28,36 @@ impl<'a, R> Watched<'a, R> {
     }
 }
 
+/// A reader of a trace. Where somebody watches, it says how many lines were read, every ten million.
+#[derive(Drop)]
+pub(crate) struct Watched<'a, R> {
+    inner: R,
+    progress: Option<Progress<'a>>,
+}
+
+impl<'a, R> Watched<'a, R> {
+    pub(crate) fn new(rt: &'a HostRuntime, name: &'a str, inner: R) -> Watched<'a, R> {
+        let progress = if rt.stderr().is_terminal() {
+            Some(Progress {
+                rt,
+                name,
+                lines: 0,
+                due: LINES_BETWEEN,
+            })
+        } else {
+            None
+        };
+        Watched { inner, progress }
+    }
+}
+
 impl<R: Read> Read for Watched<'_, R> {
     ghost remaining = { λ watched. R.remaining watched.inner };
 
     fn read(&mut self, buffer: &mut [u8]) -> io::Result<usize> {
         let count = self.inner.read(buffer)?;
-        if self.is_watched {
-            self.note(buffer.get(..count).unwrap_or(&[]));
+        if let Some(progress) = &mut self.progress {
+            progress.note(buffer.get(..count).unwrap_or(&[]));
         }
         Ok(count)
     }
