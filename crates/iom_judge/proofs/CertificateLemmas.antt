@@ -1,5 +1,5 @@
 -- A run grows with each line, and what is certified with it.
-use Rattle.std.proofs.Common.{◌≡◌, ◌≢◌, ◌∙◌, ◌<◌, ℕ, ◌+◌, ◌&&◌, ◌||◌, Bool, true, false, not, nat_eq, List, [], ◌∷◌, ◌++◌, if◌then◌else◌, Option, None, Some, Result, Ok, Err, IfOk, IfSome, IsSomeAnd, MatchOption, OnOk, IsTrue, refl, sym, ap, subst, append-nil, append_assoc, length, suc, zero, arith}
+use Rattle.std.proofs.Common.{◌≡◌, ◌≢◌, ◌∙◌, ◌<◌, ℕ, ◌+◌, ◌&&◌, ◌||◌, Bool, true, false, not, nat_eq, List, [], ◌∷◌, ◌++◌, if◌then◌else◌, Option, None, Some, Result, Ok, Err, IfSome, IsSomeAnd, OnOk, IsTrue, refl, sym, ap, subst, append-nil, append_assoc, length, suc, zero, arith}
 use Rattle.std.proofs.lemmas.List.Elements.{All-nil, filter-append}
 use Rattle.std.proofs.KnownBytes.{Consumes-nil}
 use Rattle.iom_kept_state.specs.Grants.{IsPastOf}
@@ -213,17 +213,6 @@ named_is_so judge verdict lines buffer start end (Some text) now read taken name
 pub if_ok : {T E : Type 0} (result : Result T E) (P Q : Type 0) → (P → Q) → OnOk result P → OnOk result Q
 if_ok (Ok done) P Q so went = so went
 if_ok (Err error) P Q so went = tt
-
--- A line is judged: the judge has taken it too, or what it finds names it.
-pub line_judged : {E : Type 0} (result : Result (Option Verdict) E) (old new : Judge) (lines : List (List ℕ)) (line buffer : List ℕ) (start end : ℕ)
-    (first was now : Option (List ℕ)) → HasTaken lines buffer start end first was → HasTakenAll old lines
-    → HasTaken (lines ++ line ∷ []) new.lines.buffer.items new.lines.start new.lines.end first now
-    → IfOk result (λ found. MatchOption found (HasTakenAll new (lines ++ line ∷ [])) (Names (length lines + 1)))
-    → IfOk result (λ found. MatchOption found (HasJudged new first now) (λ verdict. IfSome first (IsSoOf verdict)))
-line_judged (Ok None) old new lines line buffer start end first was now had taken next found = (lines ++ line ∷ [], next, found)
-line_judged (Ok (Some verdict)) old new lines line buffer start end first was now had taken next found =
-    named_is_so old verdict lines buffer start end first was had taken found
-line_judged (Err error) old new lines line buffer start end first was now had taken next found = tt
 
 -- before the first line
 pub nothing_taken : (judge : Judge) (first : Option (List ℕ)) → BufferHolds judge.lines.buffer.items judge.lines.start judge.lines.end []

@@ -1,5 +1,6 @@
 -- Devices that share a domain.
 use Rattle.std.proofs.Common.{◌≡◌, ◌∙◌, ℕ, Bool, List, [], ◌∷◌, ◌++◌, Option, None, Some, IsTrue, map, refl, sym, ap, subst, drop, take, slice_get, slice_index_or, ◌<◌, ◌-◌, nat_eq, length, arith}
+use Rattle.std.specs.Prelude.{⊤}
 use Rattle.std.specs.Map.{lookup}
 use Rattle.iom_base.specs.declared.grant_rights.GrantRights.{GrantRights}
 use Rattle.iom_machine.specs.declared.choice.Choice.{Choice}
@@ -44,7 +45,7 @@ came_further (event ∷ events) more outcome happened later (others, choice, non
     (others ++ later, choice, none, came_further events more outcome others later are rest, ap (λ (l : List Happening). l ++ later) is)
 
 -- grants of what another device holds, and more of them
-pub held_further : (old mid new : TraceMachine) (device : ℕ) → ContinuesByHeld old device mid → ContinuesByHeld mid device new → ContinuesByHeld old device new
+held_further : (old mid new : TraceMachine) (device : ℕ) → ContinuesByHeld old device mid → ContinuesByHeld mid device new → ContinuesByHeld old device new
 held_further old mid new device (pages, grants, are, goes) (more, later, rest, further) =
     let grant : ℕ × ℕ × GrantRights → Event = λ page. events.Grant device page.0 page.1 page.2 in (
       pages ++ more,
@@ -67,7 +68,7 @@ joins_so old mid late new device with mode ats has tables choice none shown atta
     )
 
 -- the grant of a page that another device holds
-pub held_at_one : (old new : TraceMachine) (device page frame : ℕ) (rights : GrantRights) (event : Event) (choice : Choice)
+held_at_one : (old new : TraceMachine) (device page frame : ℕ) (rights : GrantRights) (event : Event) (choice : Choice)
     → event ≡ events.Grant device page frame rights → choice.taken ≡ [] → Continues old (Came event outcomes.Done choice ∷ []) new
     → ContinuesByHeld old device new
 held_at_one old new device page frame rights event choice is none goes = (
@@ -76,6 +77,13 @@ held_at_one old new device page frame rights event choice is none goes = (
   ([], choice, none, refl, refl),
   subst (λ (e : Event). Continues old (Came e outcomes.Done choice ∷ []) new) is goes,
 )
+
+-- one grant more of what another device holds
+pub held_one_more : (old mid new : TraceMachine) (device : ℕ) (event : Event)
+    → (page frame : ℕ) × (rights : GrantRights) × (event ≡ events.Grant device page frame rights) → ContinuesByHeld old device mid
+    → (choice : Choice) × ((choice.taken ≡ []) × ⊤) × Continues mid (Came event outcomes.Done choice ∷ []) new → ContinuesByHeld old device new
+held_one_more old mid new device event (page, frame, rights, is) before (choice, (none, shown), goes) =
+    held_further old mid new device before (held_at_one mid new device page frame rights event choice is none goes)
 
 -- the first item of a list that has one
 pub first_item : (xs : List ℕ) → 0 < length xs → (d : ℕ) → slice_get xs 0 ≡ Some (slice_index_or xs 0 d)

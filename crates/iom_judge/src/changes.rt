@@ -16,12 +16,6 @@ use iom_base::{DeviceId, GrantRights};
 use iom_machine::{Event, Outcome};
 use iom_trace_lines::{GrantedPages, ReleasedPages};
 
-/// Nothing is shown of what a device does that has the tables of another: it takes none.
-pub(crate) const WITHOUT_TABLES: Shown<'static> = Shown {
-    tables: Tables::OfAnother(None),
-    ..NOTHING
-};
-
 /// What changes at a page.
 #[derive(Clone, Copy)]
 pub(crate) enum Change {
@@ -119,37 +113,22 @@ fn shown_at(has_tables: bool, tables: &[u64], index: u64) -> Shown<'_>
 }
 
 impl TraceMachine {
-    /// This came of the event, of which nothing is shown.
-    pub(crate) fn go_on_unshown<'x>(
+    /// This came of the event, of which no more is shown than which frames became tables.
+    pub(crate) fn go_on_showing<'x>(
         &mut self,
         line: &Line<'_>,
         event: &'x Event,
         outcome: &'x Outcome,
+        tables: Tables<'_>,
     ) -> Judged
-        ensures { OnOk result ((choice : spec_choice.Choice) × Continues self.old (Came event.now outcome.now choice ∷ []) self.new) }
-    {
-        let reply = Reported {
-            event,
-            outcome,
-            shown: NOTHING,
-        };
-        self.go_on_alone(line, &reply)
-    }
-
-    /// This came of the event of one device more, which took no tables.
-    pub(crate) fn go_on_without_tables<'x>(
-        &mut self,
-        line: &Line<'_>,
-        event: &'x Event,
-        outcome: &'x Outcome,
-    ) -> Judged
-        ensures { OnOk result ((choice : spec_choice.Choice) × (choice.taken ≡ [])
+        ensures { OnOk result ((choice : spec_choice.Choice) × ShowsTables tables.entry event.now choice
             × Continues self.old (Came event.now outcome.now choice ∷ []) self.new) }
     {
+        let shown = Shown { tables, ..NOTHING };
         let reply = Reported {
             event,
             outcome,
-            shown: WITHOUT_TABLES,
+            shown,
         };
         self.go_on_alone(line, &reply)
     }
@@ -168,7 +147,8 @@ impl TraceMachine {
         match devices {
             [] => Ok(()),
             [device, others @ ..] => {
-                self.go_on_without_tables(line, &change.event_of(*device), outcome)?;
+                let event = change.event_of(*device);
+                self.go_on_showing(line, &event, outcome, Tables::OfAnother(None))?;
                 self.change_these(line, others, change, outcome)
             }
         }

@@ -4,7 +4,7 @@ ghost use Rattle.iom_judge.specs.Certified.{is_given, ContinuesAs};
 ghost use Rattle.iom_judge.specs.Happenings.{is_in, is_used};
 ghost use Rattle.iom_trace_lines.specs.TraceLines.{Handoff, Take};
 
-use crate::choosing::Reported;
+use crate::choosing::{Reported, Tables};
 use crate::machine::TraceMachine;
 use crate::stop::{Judged, Line};
 use indexmap::IndexMap;
@@ -136,7 +136,8 @@ impl TraceMachine {
     pub(crate) fn hand_off(&mut self, line: &Line<'_>, frame: u64) -> Judged
         ensures { OnOk result (ContinuesAs self.old (Handoff frame) [] self.new) }
     {
-        self.go_on_unshown(line, &Event::Free { frame }, &Outcome::Free(true))?;
+        let (event, outcome) = (Event::Free { frame }, Outcome::Free(true));
+        self.go_on_showing(line, &event, &outcome, Tables::Own(None))?;
         self.handed.hand_off(frame, line.number)?;
         Ok(())
     }

@@ -6,7 +6,7 @@ ghost use Rattle.iom_judge.specs.Certificates.{IsSoOf};
 ghost use Rattle.iom_judge.specs.Certified.{Begins, Certify, HasJudged, HasTakenAll, IsReadOf, Names};
 
 use crate::machine::TraceMachine;
-use crate::stop::{Judged, Line, Stop};
+use crate::stop::{Judged, Line};
 use crate::verdict::{Finding, Verdict};
 use iom_base::Access;
 use iom_trace_lines::{KeptOutcomes, Lines, NextLine, TraceLine, read_line};
@@ -130,29 +130,6 @@ impl Judge {
         Ok(self.line)
     }
 
-    /// What is found of the line between these places, if it ends the trace.
-    fn take(&mut self, start: usize, end: usize) -> io::Result<Option<Verdict>>
-        ensures lines { self.new.lines ≡ self.old.lines }
-        ensures found { (lines : List (List ℕ)) → HasTakenAll self.old lines → start ≤ end → end ≤ length self.old.lines.buffer.items
-            → IfOk result (λ found. MatchOption found (HasTakenAll self.new (lines ++ slice_range self.old.lines.buffer.items start end ∷ []))
-            (Names (length lines + 1))) }
-    {
-        let number = self.count()?;
-        let line = Line {
-            alloc: self.alloc,
-            number,
-            text: self.lines.between(start, end),
-        };
-        match self.reading.take(&mut self.machine, &line) {
-            Ok(()) => Ok(None),
-            Err(Stop::Found(finding)) => Ok(Some(Verdict::Stops {
-                line: number,
-                finding: Box::into_inner(finding),
-            })),
-            Err(Stop::Failed(error)) => Err(io::Error::from(error)),
-        }
-    }
-
     /// What is found of a line that doesn't end in time.
     fn take_broken(&mut self) -> io::Result<Verdict>
         ensures { IfOk result (Names (self.old.line + 1)) }
@@ -170,10 +147,20 @@ impl Judge {
         ensures { (first : Option (List ℕ)) → HasJudged self.old first (R.remaining reader.old)
             → IfOk result (λ found. MatchOption found (HasJudged self.new first (R.remaining reader.new)) (λ verdict. IfSome first (IsSoOf verdict))) }
     {
-        match self.lines.next_line(reader)? {
-            NextLine::End => Ok(Some(Verdict::Lawful)),
-            NextLine::Broken => Ok(Some(self.take_broken()?)),
-            NextLine::Line(start, end) => self.take(start, end),
+        let (start, end) = match self.lines.next_line(reader)? {
+            NextLine::End => return Ok(Some(Verdict::Lawful)),
+            NextLine::Broken => return Ok(Some(self.take_broken()?)),
+            NextLine::Line(start, end) => (start, end),
+        };
+        let number = self.count()?;
+        let line = Line {
+            alloc: self.alloc,
+            number,
+            text: self.lines.between(start, end),
+        };
+        match self.reading.take(&mut self.machine, &line) {
+            Ok(()) => Ok(None),
+            Err(stop) => Ok(Some(stop.verdict(number)?)),
         }
     }
 

@@ -24,7 +24,6 @@ mod stop;
 mod verdict;
 
 pub use findings::{Findings, judge_on};
-pub use iom_trace_lines::trace_of;
 pub use judging::judge_trace;
 pub use missing::{Begun, Missing};
 pub use verdict::{Finding, Verdict};

@@ -4,6 +4,7 @@ ghost use Rattle.iom_trace_lines.specs.TraceLines.{Made};
 ghost use Rattle.iom_judge.specs.Certified.{ContinuesAs};
 ghost use Rattle.iom_judge.specs.Happenings.{MayBeTold};
 
+use crate::choosing::Tables;
 use crate::machine::TraceMachine;
 use crate::stop::{Judged, Line};
 use arrayvec::ArrayVec;
@@ -48,6 +49,6 @@ impl TraceMachine {
         ensures { OnOk result (ContinuesAs self.old (Made device is_read) [] self.new) }
     {
         let made = made_now(&self.kept, device, is_read);
-        self.go_on_unshown(line, &Event::Commit { device }, &made)
+        self.go_on_showing(line, &Event::Commit { device }, &made, Tables::Own(None))
     }
 }

@@ -13,7 +13,7 @@ ghost use Rattle.iom_judge.specs.Certified.{trace_state, Continues, ContinuesAs,
 ghost use Rattle.iom_judge.specs.Happenings.{Came, Joined};
 ghost use Rattle.iom_judge.specs.Sharing.{first_of, MayShare};
 
-use crate::choosing::{NOTHING, Reported, Shown, Tables, where_shown};
+use crate::choosing::{Tables, where_shown};
 use crate::machine::TraceMachine;
 use crate::missing::Missing;
 use crate::stop::{Judged, Line, Stop};
@@ -31,13 +31,6 @@ fn right_of(rights: Rights) -> GrantRights {
     }
 }
 
-/// Whether both are, or were, attached in one mode.
-fn have_one_mode(one: Attachment, other: Attachment) -> bool
-    ensures { IsTrue result → mode_at one ≡ mode_at other }
-{
-    one.mode() == other.mode()
-}
-
 impl TraceMachine {
     /// Whether the device may have the domain of this first one.
     fn may_share(&self, device: DeviceId, first: DeviceId) -> bool
@@ -53,7 +46,7 @@ impl TraceMachine {
         if !kept.device_may_give_back(first) {
             return false;
         }
-        if !have_one_mode(kept.attachment(device), kept.attachment(first)) {
+        if kept.attachment(device).mode() != kept.attachment(first).mode() {
             return false;
         }
         kept.grants.hold_the_same(device, first)
@@ -74,17 +67,6 @@ impl TraceMachine {
         Some(first)
     }
 
-    /// The device has the domain of the other one from here on.
-    fn share(&mut self, line: &Line<'_>, device: DeviceId, with: DeviceId) -> Judged
-        ensures { OnOk result (Continues self.old (Joined device with ∷ []) self.new) }
-    {
-        let Some(first) = self.first_to_share(device, with) else {
-            return Err(line.uncertified(Missing::Pending { device, with })?);
-        };
-        self.domains.join(device, first)?;
-        Ok(())
-    }
-
     /// The grant of what the other device holds at the page with this index, if it holds something there.
     fn grant_of_held(&self, device: DeviceId, first: DeviceId, index: usize) -> Option<Event>
         ensures { IfSome result (λ event. (page frame : ℕ) × (rights : spec_rights.GrantRights) × (event ≡ events.Grant device page frame rights)) }
@@ -100,54 +82,17 @@ impl TraceMachine {
         })
     }
 
-    /// The device is granted what this first one holds at the page with the index.
-    fn grant_held_at(
-        &mut self,
-        line: &Line<'_>,
-        device: DeviceId,
-        first: DeviceId,
-        index: usize,
-    ) -> Judged
-        ensures { OnOk result (ContinuesByHeld self.old device self.new) }
-    {
-        match self.grant_of_held(device, first, index) {
-            None => Ok(()),
-            Some(event) => self.go_on_without_tables(line, &event, &Outcome::Done),
-        }
-    }
-
     /// The device is granted what this first one holds.
     fn grant_held(&mut self, line: &Line<'_>, device: DeviceId, first: DeviceId) -> Judged
         ensures { OnOk result (ContinuesByHeld self.old device self.new) }
     {
         for index in 0..self.kept.grants.page_count(first) {
-            self.grant_held_at(line, device, first, index)?;
+            if let Some(event) = self.grant_of_held(device, first, index) {
+                let of_another = Tables::OfAnother(None);
+                self.go_on_showing(line, &event, &Outcome::Done, of_another)?;
+            }
         }
         Ok(())
-    }
-
-    /// The device is attached in the mode, without tables of its own.
-    fn attach_without_tables(
-        &mut self,
-        line: &Line<'_>,
-        device: DeviceId,
-        mode: Mode,
-        ats: bool,
-        pages: Option<&[u64]>,
-    ) -> Judged
-        ensures { OnOk result ((choice : spec_choice.Choice) × (choice.taken ≡ []) × IfSome pages.entry (λ it. choice.directory ≡ it.now)
-            × Continues self.old (Came (events.Attach device mode ats) outcomes.Done choice ∷ []) self.new) }
-    {
-        let shown = Shown {
-            tables: Tables::OfAnother(pages),
-            ..NOTHING
-        };
-        let reply = Reported {
-            event: &Event::Attach { device, mode, ats },
-            outcome: &Outcome::Done,
-            shown,
-        };
-        self.go_on_alone(line, &reply)
     }
 
     /// The mode in which the device is attached, whose domain another may have.
@@ -179,9 +124,14 @@ impl TraceMachine {
     {
         let mode = self.mode_to_share(line, with)?;
         let first = self.domains.first_of(with);
-        let pages = where_shown(has_tables, tables);
-        self.attach_without_tables(line, device, mode, ats, pages)?;
+        let event = Event::Attach { device, mode, ats };
+        let pages = Tables::OfAnother(where_shown(has_tables, tables));
+        self.go_on_showing(line, &event, &Outcome::Done, pages)?;
         self.grant_held(line, device, first)?;
-        self.share(line, device, with)
+        let Some(first) = self.first_to_share(device, with) else {
+            return Err(line.uncertified(Missing::Pending { device, with })?);
+        };
+        self.domains.join(device, first)?;
+        Ok(())
     }
 }

@@ -1,9 +1,9 @@
 // The line that is judged, and why the judging stops at it.
 use crate::missing::Missing;
-use crate::verdict::Finding;
+use crate::verdict::{Finding, Verdict};
 use iom_bad_lines::explain_trace_line;
 use std::alloc::{AllocError, Global};
-use std::str;
+use std::{io, str};
 
 /// So many bytes of a line stand in a reason at most.
 const MOST_QUOTED: usize = 100;
@@ -17,6 +17,24 @@ pub(crate) enum Stop {
 
 /// What a line comes to: the judging goes on behind it, or stops.
 pub(crate) type Judged = Result<(), Stop>;
+
+impl Stop {
+    ghost use Rattle.std.specs.Prelude.{IfOk};
+    ghost use Rattle.iom_judge.specs.Certified.{Names};
+
+    /// What is found of the trace, where the judging stops at this line.
+    pub(crate) fn verdict(self, line: u64) -> io::Result<Verdict>
+        ensures { IfOk result (Names line) }
+    {
+        match self {
+            Stop::Failed(error) => Err(io::Error::from(error)),
+            Stop::Found(finding) => Ok(Verdict::Stops {
+                line,
+                finding: Box::into_inner(finding),
+            }),
+        }
+    }
+}
 
 impl From<AllocError> for Stop {
     fn from(error: AllocError) -> Stop {

@@ -1,3 +1,4 @@
+pub mod Places
 pub mod Taken
 pub mod TraceLines
 pub mod WorldLimits

@@ -1,9 +1,10 @@
 // Outcomes that lines tell.
-ghost use Rattle.std.specs.Prelude.{◌≡◌, ◌*◌, ◌/◌, ◌++◌, ◌∷◌, [], codes, flat_map, length, IfSome, IsTrue};
+ghost use Rattle.std.specs.Prelude.{◌≡◌, ◌*◌, ◌/◌, ◌++◌, ◌∷◌, [], All, codes, flat_map, length, IfOk, IfSome, IsTrue};
 ghost use Rattle.std.specs.Fmt.{decimal};
 ghost use Rattle.iom_base.specs.Causes.{code_of};
 ghost use Rattle.iom_script.specs.Digits.{hex_of};
 ghost use Rattle.iom_script.specs.Cuts.{SaysFirst};
+ghost use Rattle.iom_trace_lines.specs.Places.{AreOfKind, BeginsSo};
 ghost use Rattle.iom_script.specs.Lines.{fetched_text, line_of, timeout_text, word_text};
 
 use crate::words::{behind, long_number_of, short_number_before, short_number_of};
@@ -290,7 +291,9 @@ fn step_of(text: &[u8]) -> Option<BlockStep> {
 }
 
 /// The places of outcomes that come less often, each beside how its words begin.
-fn seldom_places(alloc: Global) -> Result<Vec<(&'static [u8], Outcome)>, AllocError> {
+fn seldom_places(alloc: Global) -> Result<Vec<(&'static [u8], Outcome)>, AllocError>
+    ensures { IfOk result (λ places. All (λ place. BeginsSo place.0.now place.1) places.items) }
+{
     let mut places: Vec<(&'static [u8], Outcome)> = Vec::with_capacity(alloc, 32)?;
     places.push((b"miss", Outcome::Miss))?;
     let no_translation = Translation::Refused(Cause::ReadPageFault);
@@ -331,7 +334,9 @@ fn tell_place(place: &mut Outcome, rest: &[u8]) -> Option<()> {
 
 impl KeptOutcomes {
     /// Places of which each is of its kind.
-    pub fn new(alloc: Global) -> Result<KeptOutcomes, AllocError> {
+    pub fn new(alloc: Global) -> Result<KeptOutcomes, AllocError>
+        ensures { IfOk result AreOfKind }
+    {
         Ok(KeptOutcomes {
             done: Outcome::Done,
             accepted: Outcome::Accepted(0),

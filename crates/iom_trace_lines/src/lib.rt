@@ -13,10 +13,8 @@ mod reading;
 mod sizes;
 mod trace;
 mod words;
-mod zipping;
 
 pub use kept::{CAUSES, KeptOutcomes};
 pub use line::read_line;
 pub use reading::Lines;
 pub use trace::{GrantedPages, NextLine, ReleasedPages, TraceLine, WorldLimits};
-pub use zipping::trace_of;

@@ -9,8 +9,9 @@
 // checker found lawful as they were printed too.
 use crate::annotated::annotated;
 use crate::told::told;
+use crate::traces::trace_of;
 use anyhow::Context;
-use iom_judge::{Finding, Verdict, judge_trace, trace_of};
+use iom_judge::{Finding, Verdict, judge_trace};
 use std::alloc::Global;
 use std::{fmt, fs};
 

@@ -1,6 +1,6 @@
 // Pictures of the examples, as they are stored.
 use crate::scripts::first_difference;
-use iom_judge::trace_of;
+use crate::traces::trace_of;
 use iom_picture::{Choice, Reading, draw, read_trace};
 use std::fs;
 

@@ -1,5 +1,6 @@
 // Scripts with the lines that they have to print, and what the judge finds of both as a trace.
-use iom_judge::{Finding, Verdict, judge_trace, trace_of};
+use crate::traces::trace_of;
+use iom_judge::{Finding, Verdict, judge_trace};
 use iom_runner::run_words;
 use std::alloc::Global;
 use std::fs;

@@ -1,0 +1,35 @@
+-- The places of outcomes, of which those that come line after line are told.
+use Rattle.std.specs.Prelude.{◌≡◌, ◌++◌, ℕ, List, All, false, true}
+use Rattle.iom_base.specs.declared.cause.Cause.{Cause}
+use Rattle.iom_machine.specs.declared.outcome.BlockStep.{BlockStep}
+use Rattle.iom_machine.specs.declared.outcome.FaultRecord.{FaultRecord}
+use Rattle.iom_machine.specs.declared.outcome.Fetched.{Fetched}
+use Rattle.iom_machine.specs.declared.outcome.Outcome.{Outcome}
+use Rattle.iom_machine.specs.declared.outcome.Outcome.TheVariants as outcomes
+use Rattle.iom_script.specs.Lines.{line_of}
+use Rattle.iom_trace_lines.specs.declared.kept.KeptOutcomes.{KeptOutcomes}
+
+-- the line of the outcome begins so
+abbrev pub BeginsSo : List ℕ → Outcome → Type 0
+BeginsSo start outcome = (rest : List ℕ) × (line_of outcome ≡ start ++ rest)
+
+-- Each place is of its kind. Those of kinds that come less often stand beside how their lines begin.
+pub record AreOfKind (kept : KeptOutcomes) : Type 0 where
+  pub done : kept.done ≡ outcomes.Done
+  pub accepted : (number : ℕ) × (kept.accepted ≡ outcomes.Accepted number)
+  pub read : (bytes : _) × (kept.read ≡ outcomes.Read bytes)
+  pub wrote : (len : ℕ) × (kept.wrote ≡ outcomes.Wrote len)
+  pub ticket : (ticket : ℕ) × (kept.ticket ≡ outcomes.Ticket ticket)
+  pub fault : (cause : Cause) × (kept.fault ≡ outcomes.Fault cause)
+  pub fetched : (fetched : Fetched) × (kept.fetched ≡ outcomes.Fetched fetched)
+  pub confirmed : (first last : ℕ) × (kept.confirmed ≡ outcomes.Confirmed first last false)
+  pub none_confirmed : kept.none_confirmed ≡ outcomes.NoneConfirmed false
+  pub given_up : kept.given_up ≡ outcomes.NoneConfirmed true
+  pub bytes : (bytes : _) × (kept.bytes ≡ outcomes.Bytes bytes)
+  pub no_record : kept.no_record ≡ outcomes.NoRecord
+  pub sent : kept.sent ≡ outcomes.Sent
+  pub kept_there : kept.kept ≡ outcomes.Kept
+  pub no_message : kept.no_message ≡ outcomes.NoMessage
+  pub fault_record : (words : FaultRecord) × (kept.«record» ≡ outcomes.Record words)
+  pub stepped : (step : BlockStep) × (kept.stepped ≡ outcomes.Stepped step)
+  pub seldom : All (λ place. BeginsSo place.0.now place.1) kept.seldom.items
