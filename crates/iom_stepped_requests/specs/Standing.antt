@@ -1,5 +1,5 @@
 -- How far a request has come that stands between two of its loads.
-use Rattle.std.specs.Prelude.{ℕ}
+use Rattle.std.specs.Prelude.{ℕ, Bool, false, not}
 use Rattle.iom_stepped_walk.specs.Directories.{directory_rest}
 use Rattle.iom_stepped_walk.specs.Positions.{rest_of}
 use Rattle.iom_stepped_requests.specs.Serving.{Remaining, Serves, Locates, Translates}
@@ -8,6 +8,11 @@ use Rattle.iom_stepped_requests.specs.declared.walk.RequestWalk.{RequestWalk}
 use Rattle.iom_stepped_requests.specs.declared.walk.RequestWalk.TheVariants.{InDirectory, InTables}
 use Rattle.iom_stepped_requests.specs.declared.walk.Serving.{Serving}
 use Rattle.iom_stepped_requests.specs.declared.walk.Serving.TheVariants.{GoesOn, Served}
+
+-- whether its next load may look in the cache of translations: one of the directory, of a request that wasn't begun anew
+abbrev pub may_look : RequestWalk → Bool
+may_look (InDirectory request anew walk) = not anew
+may_look (InTables request context translated walk) = false
 
 -- the request that is served
 abbrev pub request_of : RequestWalk → Request

@@ -1,5 +1,5 @@
 // A request begins, or begins anew.
-ghost use Rattle.std.specs.Prelude.{◌≡◌, ◌≢◌, ℕ};
+ghost use Rattle.std.specs.Prelude.{◌≡◌, ◌≢◌, ℕ, IsTrue};
 ghost use Rattle.iom_registers.specs.declared.directory.DirectoryMode.TheVariants.{Bare};
 ghost use Rattle.iom_stepped_walk.specs.Directories.{still_locating};
 ghost use Rattle.iom_tlb.specs.Content.{TranslationsUnchanged};
@@ -48,6 +48,7 @@ pub(crate) fn in_directory<C: TransCache>(
     ensures served { (frames : ℕ) → still_serving frames result
         ≡ in_directory frames anew (C.content translations.old) request (still_locating locating) }
     ensures unchanged { TranslationsUnchanged (C.content translations.old) (C.content translations.new) }
+    ensures untouched { IsTrue anew → translations.new ≡ translations.old }
 {
     match locating {
         Locating::GoesOn(walk) => Serving::GoesOn(RequestWalk::InDirectory {

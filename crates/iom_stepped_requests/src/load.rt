@@ -1,10 +1,10 @@
 // One load of a request, and what is kept of it.
-ghost use Rattle.std.specs.Prelude.{◌≡◌, ℕ, length};
+ghost use Rattle.std.specs.Prelude.{◌≡◌, ℕ, false, length};
 ghost use Rattle.iom_stepped_walk.specs.Directories.{still_locating};
 ghost use Rattle.iom_stepped_walk.specs.Positions.{remains};
 ghost use Rattle.iom_tlb.specs.Content.{TranslationsUnchanged};
 ghost use Rattle.iom_stepped_requests.specs.Serving.{kept, kept_in_directory, kept_in_tables, load};
-ghost use Rattle.iom_stepped_requests.specs.Standing.{stands, still_serving};
+ghost use Rattle.iom_stepped_requests.specs.Standing.{may_look, stands, still_serving};
 
 use crate::beginning::in_directory;
 use crate::request::{Kept, Request};
@@ -64,6 +64,7 @@ impl RequestWalk {
             ≡ load (B.frames_of memory.now) (C.content translations.old) (stands (length (B.frames_of memory.now)) self) }
         ensures kept { result.kept ≡ kept (B.frames_of memory.now) (stands (length (B.frames_of memory.now)) self) }
         ensures unchanged { TranslationsUnchanged (C.content translations.old) (C.content translations.new) }
+        ensures untouched { may_look self ≡ false → translations.new ≡ translations.old }
     {
         match self {
             RequestWalk::InDirectory {

@@ -1,5 +1,5 @@
 // A request whose context is found: by what is cached for its page, or in tables.
-ghost use Rattle.std.specs.Prelude.{◌≡◌, ℕ};
+ghost use Rattle.std.specs.Prelude.{◌≡◌, ℕ, IsTrue};
 ghost use Rattle.iom_stage_walk.specs.Both.{plain};
 ghost use Rattle.iom_stepped_walk.specs.Positions.{remains};
 ghost use Rattle.iom_tlb.specs.Content.{TranslationsUnchanged};
@@ -94,6 +94,7 @@ fn look_up<C: TransCache>(
 ) -> Option<Translation>
     ensures found { result ≡ looked_up anew (C.content translations.old) request context.now }
     ensures unchanged { TranslationsUnchanged (C.content translations.old) (C.content translations.new) }
+    ensures untouched { IsTrue anew → translations.new ≡ translations.old }
 {
     if anew {
         return None;
@@ -117,6 +118,7 @@ pub(crate) fn by_located<C: TransCache>(
 ) -> Serving
     ensures served { (frames : ℕ) → still_serving frames result ≡ by_located frames anew (C.content translations.old) request found }
     ensures unchanged { TranslationsUnchanged (C.content translations.old) (C.content translations.new) }
+    ensures untouched { IsTrue anew → translations.new ≡ translations.old }
 {
     match found {
         Ok(context) => {
