@@ -1,4 +1,6 @@
 // What let an access through that was just accepted.
+ghost use Rattle.std.specs.Prelude.{◌≡◌};
+
 use crate::chronicle::Chronicle;
 use crate::found::{mode_of, space_of, tables_of};
 use crate::levels::Target;
@@ -33,7 +35,9 @@ fn walked_to(hardware: &Board, context: &Context, page: u64, target: Target) -> 
 impl Chronicle {
     /// An access of the device at the address was just accepted, and nothing noticed since: keeps its line, and what let it
     /// through, by what was remembered before this line.
-    pub fn accepted(&mut self, hardware: &Board, device: DeviceId, address: u64, how: Entrance) {
+    pub fn accepted(&mut self, hardware: &Board, device: DeviceId, address: u64, how: Entrance)
+        ensures { self.new ≡ record self.old { flights = self.new.flights } }
+    {
         let page = address / PAGE_SIZE;
         let through = match how {
             Entrance::Untranslated => self.through_stages(hardware, device, page),

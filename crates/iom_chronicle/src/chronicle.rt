@@ -67,7 +67,12 @@ impl Chronicle {
     /// Compares caches, contexts and messages with what is remembered: what is new is since this line. To be called after
     /// every line that hardware or a device did.
     pub fn notice(&mut self, hardware: &Board)
-        ensures { self.new.line ≡ self.old.line }
+        ensures { self.new ≡ record self.old {
+          contexts = self.new.contexts;
+          translations = self.new.translations;
+          caches = self.new.caches;
+          messages = self.new.messages;
+        } }
     {
         self.contexts.notice(hardware, self.line);
         self.translations

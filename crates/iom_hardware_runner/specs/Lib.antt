@@ -2,3 +2,4 @@ pub mod Draws
 pub mod Runs
 pub mod Parts
 pub mod Statuses
+pub mod Traffic

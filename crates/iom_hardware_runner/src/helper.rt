@@ -1,6 +1,7 @@
 // Hardware that acts by itself: which steps it takes.
-ghost use Rattle.std.specs.Prelude.{◌≡◌, true};
+ghost use Rattle.std.specs.Prelude.{◌≡◌, true, IfOk, IfErr, OnOk};
 ghost use Rattle.iom_hardware_runner.specs.Parts.{is_off};
+ghost use Rattle.iom_hardware_runner.specs.Traffic.{CanMakeRequests, TrafficIsRefused};
 
 use crate::draws::Draws;
 use crate::step::Step;
@@ -67,7 +68,9 @@ impl Helper {
         first: u64,
         last: u64,
     ) -> Result<Result<(), Refusal>, AllocError>
-        ensures { self.new.draws ≡ self.old.draws }
+        ensures admitted { IfOk result (λ done. OnOk done (CanMakeRequests hardware.now device first last)) }
+        ensures refused { IfOk result (λ done. IfErr done (λ why. TrafficIsRefused why hardware.now device first last)) }
+        ensures draws { self.new.draws ≡ self.old.draws }
     {
         let Some(kind) = hardware.kind_of(device) else {
             return Ok(Err(Refusal::NoSuchDevice));
