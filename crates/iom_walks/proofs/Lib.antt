@@ -1,0 +1,11 @@
+pub mod Rows
+mod Kept
+mod ByPlace
+mod Added
+mod OfRequest
+mod CacheLemmas
+mod RowLemmas
+mod BeginLemmas
+mod RunLemmas
+mod FewLemmas
+mod AnewLemmas

@@ -1,0 +1,6 @@
+pub mod Walks
+pub mod Calls
+pub mod Caches
+pub mod Invariant
+pub mod Rows
+pub mod Laws
