@@ -1,8 +1,10 @@
-//! Walks made load by load: the public functions of `iom_stepped_walk`, `iom_walk_stops` and `iom_stepped_requests`.
+//! Walks made load by load: the public functions of `iom_stepped_walk`, `iom_walk_stops`, `iom_stepped_requests` and
+//! `iom_walks`.
 //!
 //! The crate has tests alone, and nothing stands on it. `vectors` has translations that independent implementations
 //! confirmed; `changes` has walks in tables that change between two of their loads;
-//! `stops` has the entries at which walks stop; `requests` has requests of a device over the caches.
+//! `stops` has the entries at which walks stop; `requests` has requests of a device over the caches;
+//! `walks` has those of all devices that are under way.
 #![tactic(auto)]
 
 #[cfg(test)]
@@ -15,3 +17,5 @@ mod requests;
 mod stops;
 #[cfg(test)]
 mod vectors;
+#[cfg(test)]
+mod walks;
