@@ -1,9 +1,12 @@
 -- The rows begin anew one after another.
-use Rattle.std.proofs.Common.{◌≡◌, ◌∙◌, ◌++◌, ℕ, zero, suc, ◌<◌, ◌≤◌, List, [], ◌∷◌, length, take, drop, get_or, set, refl, arith, subst}
+use Rattle.std.proofs.Common.{◌≡◌, ◌∙◌, ◌++◌, ℕ, zero, suc, ◌<◌, ◌≤◌, List, [], ◌∷◌, length, take, drop, get_or, set, refl, arith, subst, sym, inl, inr}
+use Rattle.std.proofs.lemmas.Bool.Decides.{eqb_tells}
+use Rattle.std.proofs.lemmas.Bool.{eq-eqb}
 use Rattle.std.proofs.lemmas.List.{take-append-le, take_all}
 use Rattle.iom_registers.specs.declared.directory.DirectoryPointer.{DirectoryPointer}
-use Rattle.iom_walks.specs.Calls.{AllBeginAnew, RowBeginsAnew}
-use Rattle.iom_walks.specs.Walks.{WalkRow}
+use Rattle.iom_walks.proofs.Rows.{differs}
+use Rattle.iom_walks.specs.Calls.{AllBeginAnew, RowBeginsAnew, WhatBeginsAnew}
+use Rattle.iom_walks.specs.Walks.{WalkRow, row_of, under_way_of}
 
 -- so many of the rows begin anew, and the others are as they were
 abbrev pub BegunTo : DirectoryPointer → ℕ → List WalkRow → List WalkRow → Type 0
@@ -42,3 +45,14 @@ written_back new items len long =
     let le : len ≤ length new = omega (arith, long) in
     let ge : length new ≤ len = omega (arith, long) in
     take-append-le len new (drop (length new) items) le ∙ take_all len new ge
+
+-- WHAT IS UNDER WAY of each device has begun anew
+pub each_begins_anew : (ddtp : DirectoryPointer) (old new : List WalkRow) (device : ℕ) → AllBeginAnew ddtp old new
+    → WhatBeginsAnew ddtp (under_way_of old device) (under_way_of new device)
+each_begins_anew ddtp [] [] device anew = tt
+each_begins_anew ddtp [] (new ∷ news) device anew = absurd anew
+each_begins_anew ddtp (old ∷ olds) [] device anew = absurd anew
+each_begins_anew ddtp (old ∷ olds) (new ∷ news) device anew = elim (eqb_tells old.device device) [
+  | inl e ↦ rw (e.0, eq-eqb new.device device (anew.0.device ∙ e.1)) anew.0.under_way
+  | inr ne ↦ rw (ne.0, differs new.device device (λ same. ne.1 (sym anew.0.device ∙ same))) (each_begins_anew ddtp olds news device anew.1)
+]

@@ -8,4 +8,4 @@ mod RowLemmas
 mod BeginLemmas
 mod RunLemmas
 mod FewLemmas
-mod AnewLemmas
+pub mod AnewLemmas

@@ -24,12 +24,6 @@ abbrev pub Adds : List WalkRow → ℕ → Bool → List WalkRow → Type 0
 Adds old device true new = (row_of old device ≡ None) × (length old < device_limit) × (new ≡ old ++ new_row device ∷ [])
 Adds old device false new = (IsSome (row_of old device) ⊎ (device_limit ≤ length old)) × (new ≡ old)
 
--- the device was added, and no request of it is under way
-pub record IsIdle (rows : List WalkRow) (device : ℕ) : Type 0 where
-  pub row : WalkRow
-  pub stands : row_of rows device ≡ Some row
-  pub idle : row.under_way ≡ None
-
 -- the row, where this request of so many bytes begins and stands there
 abbrev pub row_walking : WalkRow → Request → ℕ → List ℕ → RequestWalk → WalkRow
 row_walking row request len bytes walk =

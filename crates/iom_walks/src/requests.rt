@@ -1,5 +1,5 @@
 // A request begins, and its loads are made.
-ghost use Rattle.std.specs.Prelude.{◌≡◌};
+ghost use Rattle.std.specs.Prelude.{◌≡◌, None};
 ghost use Rattle.iom_base.specs.Spans.{FitsInPage};
 ghost use Rattle.iom_device_dir.specs.Cached.{cached_contexts};
 ghost use Rattle.iom_inflight.specs.Invariant.{CarriesBytes};
@@ -7,9 +7,9 @@ ghost use Rattle.iom_stepped_requests.specs.Serving.{begin};
 ghost use Rattle.iom_stepped_requests.specs.Standing.{request_of};
 ghost use Rattle.iom_tlb.specs.Content.{TranslationsUnchanged};
 ghost use Rattle.iom_walks.specs.Caches.{LeavesTranslations, LooksAtBegin, OffersContext, OffersTranslation, looks_for_context, to_keep};
-ghost use Rattle.iom_walks.specs.Calls.{Begins, IsIdle, Loads};
+ghost use Rattle.iom_walks.specs.Calls.{Begins, Loads};
 ghost use Rattle.iom_walks.specs.Rows.{StartsThere};
-ghost use Rattle.iom_walks.specs.Walks.{under_way_of};
+ghost use Rattle.iom_walks.specs.Walks.{IsAddedTo, under_way_of};
 
 use crate::caches::{keep, look_for_context};
 use crate::outcome::{Began, Loaded};
@@ -25,7 +25,7 @@ use iom_tlb::TransCache;
 impl Walks {
     /// The request of so many bytes is under way from now on, and stands there.
     fn walk(&mut self, device: DeviceId, walk: RequestWalk, len: u16, bytes: &[u8])
-        requires idle { IsIdle self.old device }
+        requires added { IsAddedTo self.old device }
         requires own { (request_of walk).device ≡ device }
         requires within { FitsInPage (request_of walk).asked.address len }
         requires carries { CarriesBytes (request_of walk).asked.kind len bytes.now }
@@ -50,7 +50,8 @@ impl Walks {
         kind: AccessKind,
         bytes: &[u8],
     ) -> Began
-        requires idle { IsIdle self.old device }
+        requires added { IsAddedTo self.old device }
+        requires idle { under_way_of self.old device ≡ None }
         requires within { FitsInPage address len }
         requires carries { CarriesBytes kind len bytes.now }
         ensures begun { Begins self.old (record { device = device; asked = record { address = address; kind = kind } }) len bytes.now

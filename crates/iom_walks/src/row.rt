@@ -155,6 +155,6 @@ impl Row {
     pub(crate) fn give_up(&mut self)
         ensures { self.new ≡ idle_row self.old }
     {
-        self.standing = None;
+        self.standing.take();
     }
 }

@@ -105,6 +105,13 @@ impl Walks {
         }
     }
 
+    /// Whether the device was added.
+    pub fn is_added(&self, device: DeviceId) -> bool
+        ensures { result ≡ is_some (row_of self.now device) }
+    {
+        find(&self.rows, device).is_some()
+    }
+
     /// Whether a request of the device is under way.
     pub fn is_walking(&self, device: DeviceId) -> bool
         ensures { result ≡ is_some (under_way_of self.now device) }
