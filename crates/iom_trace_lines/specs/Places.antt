@@ -1,5 +1,5 @@
 -- The places of outcomes, of which those that come line after line are told.
-use Rattle.std.specs.Prelude.{◌≡◌, ◌++◌, ℕ, List, All, false, true}
+use Rattle.std.specs.Prelude.{◌≡◌, ◌++◌, ℕ, List, All, false}
 use Rattle.iom_base.specs.declared.cause.Cause.{Cause}
 use Rattle.iom_machine.specs.declared.outcome.BlockStep.{BlockStep}
 use Rattle.iom_machine.specs.declared.outcome.FaultRecord.{FaultRecord}
@@ -24,7 +24,6 @@ pub record AreOfKind (kept : KeptOutcomes) : Type 0 where
   pub fetched : (fetched : Fetched) × (kept.fetched ≡ outcomes.Fetched fetched)
   pub confirmed : (first last : ℕ) × (kept.confirmed ≡ outcomes.Confirmed first last false)
   pub none_confirmed : kept.none_confirmed ≡ outcomes.NoneConfirmed false
-  pub given_up : kept.given_up ≡ outcomes.NoneConfirmed true
   pub bytes : (bytes : _) × (kept.bytes ≡ outcomes.Bytes bytes)
   pub no_record : kept.no_record ≡ outcomes.NoRecord
   pub sent : kept.sent ≡ outcomes.Sent

@@ -17,44 +17,20 @@ use iom_script::words::{after, byte_of, cut, eight_bytes, is_word, number_of, ri
 use iom_virtqueue::ChainFault;
 use std::alloc::{AllocError, Global};
 
+#[rattlefmt::skip]
 static REFUSALS: [Refusal; 23] = [
-    Refusal::NoSuchDevice,
-    Refusal::AlreadyAttached,
-    Refusal::NotAttached,
-    Refusal::NotTrusted,
-    Refusal::FrameOutOfRange,
-    Refusal::FrameReserved,
-    Refusal::IovaOutOfRange,
-    Refusal::IovaBusy,
-    Refusal::NotGranted,
-    Refusal::NoFrames,
-    Refusal::QueueFull,
-    Refusal::TooManyPending,
-    Refusal::Quarantined,
-    Refusal::NumbersUsedUp,
-    Refusal::Memory,
-    Refusal::StillGranted,
-    Refusal::IdTooWide,
-    Refusal::TooManyDevices,
-    Refusal::NotStarted,
-    Refusal::AlreadyPlugged,
-    Refusal::WrongKind,
-    Refusal::BadMedium,
-    Refusal::BadQueue,
+    Refusal::NoSuchDevice, Refusal::AlreadyAttached, Refusal::NotAttached, Refusal::NotTrusted,
+    Refusal::FrameOutOfRange, Refusal::FrameReserved, Refusal::IovaOutOfRange, Refusal::IovaBusy, Refusal::NotGranted,
+    Refusal::NoFrames, Refusal::QueueFull, Refusal::TooManyPending, Refusal::Quarantined, Refusal::NumbersUsedUp,
+    Refusal::Memory, Refusal::StillGranted, Refusal::IdTooWide, Refusal::TooManyDevices, Refusal::NotStarted,
+    Refusal::AlreadyPlugged, Refusal::WrongKind, Refusal::BadMedium, Refusal::BadQueue,
 ];
 
+#[rattlefmt::skip]
 pub static CAUSES: [Cause; 11] = [
-    Cause::ReadAccessFault,
-    Cause::WriteAccessFault,
-    Cause::ReadPageFault,
-    Cause::WritePageFault,
-    Cause::ReadGuestPageFault,
-    Cause::WriteGuestPageFault,
-    Cause::AllInboundDisallowed,
-    Cause::DirectoryLoadFault,
-    Cause::DirectoryEntryNotValid,
-    Cause::DirectoryEntryMisconfigured,
-    Cause::TransactionTypeDisallowed,
+    Cause::ReadAccessFault, Cause::WriteAccessFault, Cause::ReadPageFault, Cause::WritePageFault,
+    Cause::ReadGuestPageFault, Cause::WriteGuestPageFault, Cause::AllInboundDisallowed, Cause::DirectoryLoadFault,
+    Cause::DirectoryEntryNotValid, Cause::DirectoryEntryMisconfigured, Cause::TransactionTypeDisallowed,
 ];
 
 /// A place for each kind of outcome, for line after line. An outcome has room for the bytes of a page, and a new one is a
@@ -70,7 +46,6 @@ pub struct KeptOutcomes {
     fetched: Outcome,
     confirmed: Outcome,
     none_confirmed: Outcome,
-    given_up: Outcome,
     bytes: Outcome,
     no_record: Outcome,
     sent: Outcome,
@@ -351,7 +326,6 @@ impl KeptOutcomes {
                 timed_out: false,
             },
             none_confirmed: Outcome::NoneConfirmed { timed_out: false },
-            given_up: Outcome::NoneConfirmed { timed_out: true },
             bytes: Outcome::Bytes(ArrayVec::new()),
             no_record: Outcome::NoRecord,
             sent: Outcome::Sent,
@@ -414,21 +388,20 @@ impl KeptOutcomes {
         // What is read is what the text says.
         ensures { IfSome result (λ outcome. line_of outcome.now ≡ text.now ++ 10 ∷ []) }
     {
+        if let [b'b' | b'r' | b'w', ..] = text {
+            tell_behind!(text, rest,
+                b"read " => tell!(self.read, Outcome::Read(bytes) => put_bytes(bytes, rest)?),
+                b"wrote " => tell!(self.wrote, Outcome::Wrote(len) => *len = long_number_of(rest)?),
+                b"bytes " => tell!(self.bytes, Outcome::Bytes(bytes) => put_bytes(bytes, rest)?),
+                b"record" => tell!(self.record, Outcome::Record(taken) => *taken = record_of(rest)?),
+            );
+        }
         tell_behind!(text, rest,
-            b"read " => tell!(self.read, Outcome::Read(bytes) => put_bytes(bytes, rest)?),
-            b"wrote " => tell!(self.wrote, Outcome::Wrote(len) => *len = long_number_of(rest)?),
             b"ticket " => tell!(self.ticket, Outcome::Ticket(ticket) => *ticket = short_number_of(rest)?),
             b"fault " => tell!(self.fault, Outcome::Fault(cause) => *cause = cause_of(rest)?),
-        );
-        tell_words!(text,
-            b"confirmed -" => self.none_confirmed, Outcome::NoneConfirmed { timed_out: false },
-            b"confirmed - timeout" => self.given_up, Outcome::NoneConfirmed { timed_out: true },
-        );
-        tell_behind!(text, rest,
-            b"confirmed " => tell!(self.confirmed, Outcome::Confirmed { first, last, timed_out } => {
-                (*first, *last, *timed_out) = tickets_of(rest)?;
-            }),
-            b"bytes " => tell!(self.bytes, Outcome::Bytes(bytes) => put_bytes(bytes, rest)?),
+            b"confirmed -" => tell!(self.none_confirmed, Outcome::NoneConfirmed { timed_out: is } => *is = is_given_up(rest)?),
+            b"confirmed " => tell!(self.confirmed, Outcome::Confirmed { first, last, timed_out: is } =>
+                (*first, *last, *is) = tickets_of(rest)?),
         );
         tell_words!(text,
             b"no record" => self.no_record, Outcome::NoRecord,
@@ -437,9 +410,6 @@ impl KeptOutcomes {
         );
         if let Some(what) = fetched_of(event, text) {
             return tell!(self.fetched, Outcome::Fetched(fetched) => *fetched = what);
-        }
-        if let Some(words) = behind(text, b"record") {
-            return tell!(self.record, Outcome::Record(taken) => *taken = record_of(words)?);
         }
         self.told_seldom(event, text)
     }

@@ -14,10 +14,10 @@ use crate::trace::TraceLine;
 use crate::words::{behind, cut, long_number_of, number_before, read_frames};
 use iom_base::{Access, AccessKind, DeviceId, Sequence};
 use iom_machine::{Event, Outcome};
-use iom_script::words::is_word;
 use iom_script::{event_of, is_spoken};
 use memchr::{memchr, memrchr};
 use std::alloc::{AllocError, Global};
+use std::simd::prelude::*;
 
 /// Whether the event takes frames for tables, where it is done.
 fn takes_frames(event: &Event, outcome: &Outcome) -> bool
@@ -162,18 +162,14 @@ fn read_made(event: &Event, answered: &[u8]) -> TraceLine<'static>
     let Event::Commit { device } = event else {
         return TraceLine::Bad;
     };
-    if is_word(answered, b"read ?") {
-        TraceLine::Made {
-            device: *device,
-            is_read: true,
-        }
-    } else if is_word(answered, b"made") {
-        TraceLine::Made {
-            device: *device,
-            is_read: false,
-        }
-    } else {
-        TraceLine::Bad
+    let is_read = match answered {
+        b"read ?" => true,
+        b"made" => false,
+        _ => return TraceLine::Bad,
+    };
+    TraceLine::Made {
+        device: *device,
+        is_read,
     }
 }
 
@@ -239,6 +235,22 @@ fn read_seldom(
     }
 }
 
+/// Where an arrow may stand: the first, near at hand; behind the bytes of a write or a poke the last. Who asks compares it.
+#[inline(always)]
+fn place_of_arrow(line: &[u8]) -> Option<usize> {
+    let lanes = u8x16::splat(b'=');
+    let near = match line.get(..16) {
+        Some(front) => u8x16::from_slice(front).simd_eq(lanes).to_bitmask(),
+        None => 0,
+    };
+    let equals = match line {
+        [b'w', ..] | [b'p', b'o', b'k', ..] => memrchr(b'=', line)?,
+        _ if near != 0 => near.trailing_zeros() as usize,
+        _ => memchr(b'=', line)?,
+    };
+    equals.checked_sub(1)
+}
+
 /// What the line says, of which the line feed is left out. The first that says something is that of the world. What is large
 /// stands in the places that are lent.
 pub fn read_line<'a>(
@@ -256,8 +268,7 @@ pub fn read_line<'a>(
         return Ok(TraceLine::Nothing);
     }
     tables.clear();
-    let arrow = memchr(b'=', line).and_then(|place| place.checked_sub(1));
-    let (said, answered) = cut(line, b" => ", arrow);
+    let (said, answered) = cut(line, b" => ", place_of_arrow(line));
     if has_world {
         if let Some(answered) = answered {
             if let Some(event) = event_of(alloc, said)? {

@@ -10,7 +10,7 @@ use iom_script::{WorldSize, world_of};
 use memchr::memchr;
 
 /// Whether a world without limits may be so large. Its device directory has up to three levels.
-fn is_large_size(size: WorldSize) -> bool
+fn is_large(size: WorldSize) -> bool
     ensures { IsTrue result → IsLargeSize size }
 {
     (64..=1 << 40).contains(&size.frames) && (1..=3).contains(&size.levels)
@@ -24,11 +24,7 @@ fn large_world_of(line: &[u8]) -> Option<WorldSize>
     let (frames, rest) = number_and(arguments)?;
     let levels = number_of(rest)?;
     let size = WorldSize { frames, levels };
-    if is_large_size(size) {
-        Some(size)
-    } else {
-        None
-    }
+    if is_large(size) { Some(size) } else { None }
 }
 
 /// The size of the world that a line says, and the limits that a word behind that says.
