@@ -59,8 +59,7 @@ pub(crate) struct Stay {
 impl Stay {
     /// Whether the ticket of its release is confirmed.
     pub(crate) fn is_stale(&self) -> bool {
-        let confirmed = self.release.and_then(|release| release.confirmed);
-        confirmed.is_some()
+        self.release.and_then(|release| release.confirmed).is_some()
     }
 }
 
@@ -79,6 +78,8 @@ pub(crate) struct Past {
     pending: IndexMap<u32, Place>,
     /// The lines that accepted each device's accesses in flight. They are made in the order in which they were accepted.
     flights: IndexMap<DeviceId, VecDeque<u64>>,
+    /// Where those stand that were spoken of last.
+    recent: usize,
 }
 
 impl Past {
@@ -90,6 +91,7 @@ impl Past {
             leaves: IndexMap::new(alloc),
             pending: IndexMap::new(alloc),
             flights: IndexMap::new(alloc),
+            recent: 0,
         }
     }
 
@@ -158,13 +160,24 @@ impl Past {
         }
     }
 
+    /// The lines that accepted the device's accesses in flight, if any did. A line often speaks of the device of the one before.
+    fn flights_of(&mut self, device: DeviceId) -> Option<&mut VecDeque<u64>> {
+        match self.flights.get_index(self.recent) {
+            Some((recent, _lines)) if *recent == device => {}
+            _ => self.recent = self.flights.get_index_of(&device)?,
+        }
+        self.flights.get_index_mut(self.recent)
+    }
+
     /// The line accepts an access of the device.
     fn accept(&mut self, device: DeviceId, line: u64) -> Said {
-        let alloc = self.alloc;
-        let lines = self.flights.entry(device)?;
-        lines
-            .or_insert_with(|| VecDeque::new(alloc))
-            .push_back(line)?;
+        if let Some(lines) = self.flights_of(device) {
+            lines.push_back(line)?;
+            return Ok(());
+        }
+        let mut lines = VecDeque::new(self.alloc);
+        lines.push_back(line)?;
+        self.flights.insert(device, lines)?;
         Ok(())
     }
 
@@ -193,8 +206,7 @@ impl Past {
                 }
             }
             (Event::Commit { device }, Outcome::Read(_) | Outcome::Wrote(_)) => {
-                let lines = self.flights.get_mut(device);
-                let _oldest = lines.and_then(|lines| lines.pop_front());
+                let _oldest = self.flights_of(*device).and_then(|lines| lines.pop_front());
             }
             (event, Outcome::Accepted(_)) => {
                 if let Some(device) = requester(event) {

@@ -62,8 +62,7 @@ impl Words {
     pub(crate) fn finish(self) -> Result<String, AllocError>
         ensures { IfOk result (λ text. ¬ Contains (string_bytes text) 10) }
     {
-        let mut text = self.facts;
-        let answers = self.answers;
+        let (mut text, answers) = (self.facts, self.answers);
         if !answers.is_empty() {
             join(&mut text, "; ", &format_args!("could have come: {answers}"))?;
         }
