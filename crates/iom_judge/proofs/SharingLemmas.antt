@@ -125,3 +125,16 @@ pub comes_so : (old mid new : TraceMachine) (event : Event) (outcome : Outcome) 
     → (others : List Happening) × IsShared (change_by event outcome) outcome others × Continues mid others new → ContinuesBy old event outcome choice new
 comes_so old mid new event outcome choice came (others, shares, goes) =
     (Came event outcome choice ∷ others, (others, shares, refl), continues_further old mid new (Came event outcome choice ∷ []) others came goes)
+
+-- nothing changes of a domain where neither a page is granted nor one released
+pub nothing_changes : (event : Event) (outcome : Outcome) → ((id page frame : ℕ) (rights : GrantRights) → event ≡ events.Grant id page frame rights → ⊥)
+    → ((id page : ℕ) → event ≡ events.Release id page → ⊥) → change_by event outcome ≡ None
+nothing_changes (events.Grant id page frame rights) outcome grant release = absurd (grant id page frame rights refl)
+nothing_changes (events.Release id page) outcome grant release = absurd (release id page refl)
+nothing_changes _ outcome grant release = refl
+
+-- what comes of such an event is all that comes
+pub comes_alone : (old new : TraceMachine) (event : Event) (outcome : Outcome) (choice : Choice) → change_by event outcome ≡ None
+    → Continues old (Came event outcome choice ∷ []) new → ContinuesBy old event outcome choice new
+comes_alone old new event outcome choice none goes =
+    (Came event outcome choice ∷ [], ([], subst (λ change. IsShared change outcome []) (sym none) refl, refl), goes)

@@ -166,14 +166,26 @@ impl TraceMachine {
         self.change_these(line, devices.as_slice(), change, outcome)
     }
 
-    /// This came of the event. A grant and a release are those of each device of the domain, and it is its first that is named.
-    pub(crate) fn go_on(&mut self, line: &Line<'_>, reply: &Reported<'_>) -> Judged
+    /// This came of a grant or a release: of each device of the domain, and it is its first that is named.
+    #[inline(never)]
+    fn go_on_in_domain(&mut self, line: &Line<'_>, reply: &Reported<'_>) -> Judged
         ensures { OnOk result ((choice : spec_choice.Choice) × ShowsChoice reply.now.shown reply.now.event.now choice
             × ContinuesBy self.old reply.now.event.now reply.now.outcome.now choice self.new) }
     {
         self.domains.check_first(line, reply.event)?;
         self.go_on_alone(line, reply)?;
         self.change_sharers(line, reply.event, reply.outcome)
+    }
+
+    /// This came of the event.
+    pub(crate) fn go_on(&mut self, line: &Line<'_>, reply: &Reported<'_>) -> Judged
+        ensures { OnOk result ((choice : spec_choice.Choice) × ShowsChoice reply.now.shown reply.now.event.now choice
+            × ContinuesBy self.old reply.now.event.now reply.now.outcome.now choice self.new) }
+    {
+        match reply.event {
+            Event::Grant { .. } | Event::Release { .. } => self.go_on_in_domain(line, reply),
+            _ => self.go_on_alone(line, reply),
+        }
     }
 
     /// It changed so of the device at so many pages, one after another; and the tables that were taken, where they are shown.
