@@ -2,7 +2,7 @@
 // from the IOMMU specification, sections 2.1, 2.3 and 2.8, and the Privileged Architecture, sections 12.3.2 and 15.5:
 // which loads there are, what is kept of them, and what a fetch that begins requests anew leaves of that.
 use crate::expect::expect;
-use iom_base::{AccessKind, Cause, DeviceId, Rights};
+use iom_base::{AccessKind, Cause, DeviceId, Rights, Span};
 use iom_device_dir::DirCache;
 use iom_phys_mem::{Bytes, Memory};
 use iom_registers::{DirectoryMode, DirectoryPointer};
@@ -86,7 +86,10 @@ impl Bench {
     }
 
     /// The device writes these four bytes at the address.
-    fn begin(&mut self, device: DeviceId, address: u64) -> Began {
+    fn begin(&mut self, rt: &impl Abort, device: DeviceId, address: u64) -> Began {
+        assert!(rt; self.walks.is_added(device));
+        assert!(rt; !self.walks.is_walking(device));
+        assert!(rt; Span::new(address, 4).is_some());
         self.walks.begin(
             directory(DirectoryMode::OneLevel),
             &mut self.contexts,
@@ -156,7 +159,7 @@ fn faults_with(answered: Option<Answered>, cause: Cause) -> bool {
 fn a_request_ends_at_its_last_load(rt: HostRuntime) {
     let mut bench = Bench::new(&rt, rt.alloc());
     expect(&rt, bench.load(2) == Loaded::Nothing);
-    expect(&rt, bench.begin(2, 0x5008) == Began::Walking);
+    expect(&rt, bench.begin(&rt, 2, 0x5008) == Began::Walking);
     expect(&rt, bench.walks.is_walking(2));
     // the context, and an entry of each of the two upper levels
     bench.goes_on(&rt, 2, 3);
@@ -178,7 +181,7 @@ fn a_request_ends_at_its_last_load(rt: HostRuntime) {
     // with what was kept the next one needs no load
     expect(
         &rt,
-        bench.begin(2, 0x5000) == Began::Served(Answer::Cached(KEPT)),
+        bench.begin(&rt, 2, 0x5000) == Began::Served(Answer::Cached(KEPT)),
     );
     expect(&rt, !bench.walks.is_walking(2));
 }
@@ -186,7 +189,7 @@ fn a_request_ends_at_its_last_load(rt: HostRuntime) {
 #[test]
 fn a_request_in_both_stages_loads_each_entry_by_itself(rt: HostRuntime) {
     let mut bench = Bench::new(&rt, rt.alloc());
-    expect(&rt, bench.begin(3, 0x5008) == Began::Walking);
+    expect(&rt, bench.begin(&rt, 3, 0x5008) == Began::Walking);
     // the context; for each of the guest's three tables three entries of the second stage and its own; two of the page's
     bench.goes_on(&rt, 3, 15);
     expect(&rt, reaches(bench.ends(&rt, 3), 25));
@@ -195,8 +198,8 @@ fn a_request_in_both_stages_loads_each_entry_by_itself(rt: HostRuntime) {
 #[test]
 fn a_fetch_begins_all_requests_anew(rt: HostRuntime) {
     let mut bench = Bench::new(&rt, rt.alloc());
-    expect(&rt, bench.begin(2, 0x5008) == Began::Walking);
-    expect(&rt, bench.begin(3, 0x5008) == Began::Walking);
+    expect(&rt, bench.begin(&rt, 2, 0x5008) == Began::Walking);
+    expect(&rt, bench.begin(&rt, 3, 0x5008) == Began::Walking);
     bench.goes_on(&rt, 2, 2);
     bench.goes_on(&rt, 3, 7);
     bench.translations.keep(SPACE, 5, KEPT);
@@ -211,7 +214,7 @@ fn a_fetch_begins_all_requests_anew(rt: HostRuntime) {
 #[test]
 fn one_that_begins_anew_without_a_directory_ends_at_its_next_load(rt: HostRuntime) {
     let mut bench = Bench::new(&rt, rt.alloc());
-    expect(&rt, bench.begin(2, 0x5008) == Began::Walking);
+    expect(&rt, bench.begin(&rt, 2, 0x5008) == Began::Walking);
     bench.goes_on(&rt, 2, 2);
     bench.walks.begin_anew(directory(DirectoryMode::Off));
     expect(&rt, bench.walks.is_walking(2));
@@ -220,7 +223,7 @@ fn one_that_begins_anew_without_a_directory_ends_at_its_next_load(rt: HostRuntim
         faults_with(bench.ends(&rt, 2), Cause::AllInboundDisallowed),
     );
     // one that finds a directory again before that load walks it
-    expect(&rt, bench.begin(2, 0x6000) == Began::Walking);
+    expect(&rt, bench.begin(&rt, 2, 0x6000) == Began::Walking);
     bench.walks.begin_anew(directory(DirectoryMode::Off));
     bench.walks.begin_anew(directory(DirectoryMode::OneLevel));
     bench.goes_on(&rt, 2, 3);
@@ -230,8 +233,8 @@ fn one_that_begins_anew_without_a_directory_ends_at_its_next_load(rt: HostRuntim
 #[test]
 fn a_request_that_is_given_up_is_gone_and_the_others_stay(rt: HostRuntime) {
     let mut bench = Bench::new(&rt, rt.alloc());
-    expect(&rt, bench.begin(2, 0x5008) == Began::Walking);
-    expect(&rt, bench.begin(3, 0x5008) == Began::Walking);
+    expect(&rt, bench.begin(&rt, 2, 0x5008) == Began::Walking);
+    expect(&rt, bench.begin(&rt, 3, 0x5008) == Began::Walking);
     bench.goes_on(&rt, 3, 15);
     bench.walks.give_up(2);
     expect(&rt, !bench.walks.is_walking(2));

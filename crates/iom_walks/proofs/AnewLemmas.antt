@@ -6,7 +6,7 @@ use Rattle.std.proofs.lemmas.List.{take-append-le, take_all}
 use Rattle.iom_registers.specs.declared.directory.DirectoryPointer.{DirectoryPointer}
 use Rattle.iom_walks.proofs.Rows.{differs}
 use Rattle.iom_walks.specs.Calls.{AllBeginAnew, RowBeginsAnew, WhatBeginsAnew}
-use Rattle.iom_walks.specs.Walks.{WalkRow, row_of, under_way_of}
+use Rattle.iom_walks.specs.Walks.{WalkRow, under_way_of}
 
 -- so many of the rows begin anew, and the others are as they were
 abbrev pub BegunTo : DirectoryPointer → ℕ → List WalkRow → List WalkRow → Type 0
