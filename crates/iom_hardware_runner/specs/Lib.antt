@@ -1,3 +1,4 @@
+pub mod Answers
 pub mod Draws
 pub mod Runs
 pub mod Parts

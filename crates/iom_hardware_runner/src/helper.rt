@@ -1,7 +1,7 @@
 // Hardware that acts by itself: which steps it takes.
-ghost use Rattle.std.specs.Prelude.{◌≡◌, true, IfOk, IfErr, OnOk};
+ghost use Rattle.std.specs.Prelude.{◌≡◌, true, IfOk, IfErr, OnOk, OnErr};
 ghost use Rattle.iom_hardware_runner.specs.Parts.{is_off};
-ghost use Rattle.iom_hardware_runner.specs.Traffic.{CanMakeRequests, TrafficIsRefused};
+ghost use Rattle.iom_hardware_runner.specs.Traffic.{CanMakeRequests, TrafficIsRefused, with_traffic};
 
 use crate::draws::Draws;
 use crate::step::Step;
@@ -70,6 +70,8 @@ impl Helper {
     ) -> Result<Result<(), Refusal>, AllocError>
         ensures admitted { IfOk result (λ done. OnOk done (CanMakeRequests hardware.now device first last)) }
         ensures refused { IfOk result (λ done. IfErr done (λ why. TrafficIsRefused why hardware.now device first last)) }
+        ensures kept { IfOk result (λ done. OnOk done (self.new.traffic.items ≡ with_traffic (record { device = device; first = first; last = last }) self.old.traffic.items)) }
+        ensures unchanged { IfOk result (λ done. OnErr done (self.new ≡ self.old)) }
         ensures draws { self.new.draws ≡ self.old.draws }
     {
         let Some(kind) = hardware.kind_of(device) else {

@@ -1,6 +1,8 @@
 // One line after another, each with its answer.
-ghost use Rattle.std.specs.Prelude.{◌≡◌, ◌+◌, ◌<◌, ◌^◌, false, IfOk};
+ghost use Rattle.std.specs.Prelude.{◌≡◌, ◌+◌, ◌<◌, ◌^◌, false, IfOk, IfSome};
+ghost use Rattle.iom_hardware_runner.specs.Answers.{claim_text};
 ghost use Rattle.iom_hardware_runner.specs.Parts.{KeepsSession, TellsLine};
+ghost use Rattle.iom_hardware_session.specs.Answered.{judgement_in};
 
 use crate::fallen::fallen;
 use crate::telling::put_answer;
@@ -265,7 +267,8 @@ impl Teller {
     /// The line happens, and its answer stands in the buffer.
     fn step(&mut self, line: &HardwareLine) -> Stepped
         requires { self.old.session.hardware.board.events + 1 < 2 ^ 64 }
-        ensures { TellsLine self.old line.now self.new }
+        ensures tells { TellsLine self.old line.now self.new }
+        ensures told { IfSome (judgement_in result.answer) (λ found. self.new.buffer ≡ claim_text found) }
     {
         let stepped = self.session.line(line);
         self.is_wrong |= self.session.is_wrong(&stepped);
@@ -345,7 +348,9 @@ impl Teller {
     }
 
     /// The text of the answer that the last line had, but for the words of what is wrong.
-    pub(crate) fn answer(&self) -> &[u8] {
+    pub(crate) fn answer(&self) -> &[u8]
+        ensures { result.now ≡ self.now.buffer }
+    {
         self.buffer.as_slice()
     }
 }

@@ -1,4 +1,9 @@
 // The answer of a line, as text.
+ghost use Rattle.std.specs.Prelude.{◌≡◌, IfSome};
+ghost use Rattle.iom_hardware_runner.specs.Answers.{claim_text};
+ghost use Rattle.iom_hardware_script.specs.Answers.{hardware_answer_text};
+ghost use Rattle.iom_hardware_session.specs.Answered.{judgement_in};
+
 use crate::outcomes::{
     put_cache, put_committed, put_delivered, put_done, put_fetched, put_loaded, put_refusal,
     put_repeated, put_replied, put_sent, put_status, put_step, put_stored, put_words,
@@ -11,7 +16,9 @@ use iom_registers::RegFault;
 use iom_script::LineBuffer;
 
 /// Writes the text of an answer that no outcome has, in place of what stood there.
-fn put_text(out: &mut LineBuffer, text: &Text) {
+fn put_text(out: &mut LineBuffer, text: &Text)
+    ensures { out.new ≡ hardware_answer_text text.now }
+{
     out.clear();
     append_answer(out, text);
 }
@@ -25,7 +32,9 @@ fn put_fault(out: &mut LineBuffer, fault: RegFault) {
 }
 
 /// What is found of a claim; behind `wrong: ` stand other words.
-fn put_claim(out: &mut LineBuffer, found: ClaimAnswer) {
+fn put_claim(out: &mut LineBuffer, found: ClaimAnswer)
+    ensures { out.new ≡ claim_text found }
+{
     match found {
         ClaimAnswer::Good => put_text(out, &Text::Good),
         ClaimAnswer::Released(number) => put_text(out, &Text::Claimed(number)),
@@ -44,7 +53,10 @@ fn put_bytes(out: &mut LineBuffer, line: &HardwareLine, hardware: &Board) {
 }
 
 /// Writes the answer of the line, in place of what stood there; of a claim that is wrong only `wrong: `.
-pub fn put_answer(out: &mut LineBuffer, line: &HardwareLine, answer: &Answer, hardware: &Board) {
+pub fn put_answer(out: &mut LineBuffer, line: &HardwareLine, answer: &Answer, hardware: &Board)
+    // What is found of a claim.
+    ensures claimed { IfSome (judgement_in answer.now) (λ found. out.new ≡ claim_text found) }
+{
     match *answer {
         Answer::Plugged(done)
         | Answer::Reset(done)
