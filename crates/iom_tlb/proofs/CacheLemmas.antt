@@ -6,7 +6,8 @@ use Rattle.std.proofs.lemmas.Grind.{get_or-set_at}
 use Rattle.iom_tlb.specs.declared.trans_cache.Translation.{Translation}
 use Rattle.iom_tlb.specs.Content.{Key, HasNothing, left_by, DropsWhere}
 use Rattle.iom_tlb.specs.Ways.{Ways, is_space, in_set, no_ways, content_of_sets}
-use Rattle.iom_tlb.specs.WayCalls.{AreAtHome, AreSets, CountersUnchanged}
+use Rattle.iom_tlb.specs.WayCalls.{AreAtHome, AreSets, OnlyEmptied, AreOnlyEmptied}
+use Rattle.iom_tlb.proofs.SetLemmas.{none_emptied}
 
 nothing_either : (b : Bool) → ◌≡◌ {A = Option Translation} (cond b None None) None
 nothing_either true = refl
@@ -69,8 +70,9 @@ module _ (old : List Ways) (i : ℕ) (before after : Ways) (lt : i < length old)
         ∙ untouched (is_out key) (content_of_sets old key) (λ t is. none key t is ne.1)
   ]
 
-  pub counters_in_one : after.next ≡ before.next → CountersUnchanged old (set old i after)
-  counters_in_one same = changed (λ k s. s.next ≡ (get_or old k no_ways).next) old i after lt (same ∙ ap (λ (s : Ways). s.next) here) (λ k ne. refl)
+  pub emptied_in_one : OnlyEmptied before after → AreOnlyEmptied old (set old i after)
+  emptied_in_one emptied =
+      changed (λ k s. OnlyEmptied (get_or old k no_ways) s) old i after lt (subst (λ s. OnlyEmptied s after) here emptied) (λ k ne. none_emptied (get_or old k no_ways))
 
 -- a drop in all
 pub dropped_in_all : (is_out : Key → Translation → Bool) (old new : List Ways) → length old ≡ 64

@@ -1,5 +1,5 @@
 -- What a set has after a key took a way, and after ways were emptied.
-use Rattle.std.proofs.Common.{◌≡◌, ◌≢◌, ◌<◌, ◌⊎◌, ◌∙◌, inl, inr, ℕ, Bool, true, false, cond, List, get_or, set, Option, Some, None, refl, sym, ap, arith}
+use Rattle.std.proofs.Common.{◌≡◌, ◌≢◌, ◌<◌, ◌⊎◌, ◌∙◌, inl, inr, ℕ, Bool, true, false, cond, List, get_or, set, replicate, Option, Some, None, refl, sym, ap, arith}
 use Rattle.std.proofs.lemmas.Bool.Decides.{eqb_tells}
 use Rattle.std.proofs.lemmas.List.{get_or-set_other, get_or_past, length-set}
 use Rattle.std.proofs.lemmas.Grind.{get_or-set_at}
@@ -9,7 +9,8 @@ use Rattle.iom_tlb.specs.declared.trans_cache.Translation.{Translation}
 use Rattle.iom_tlb.specs.Content.{Key, Sets, left_by, DropsWhere}
 use Rattle.iom_tlb.specs.Entries.{is_key, has_key}
 use Rattle.iom_tlb.specs.Ways.{Ways, is_space, space_word, in_ways, in_set}
-use Rattle.iom_tlb.specs.WayCalls.{AreWays, AreAtHome, HasKey, with_way, PutsWay, Empties}
+use Rattle.iom_tlb.specs.WayCalls.{AreWays, AreAtHome, HasKey, with_way, PutsWay, Empties, OnlyEmptied}
+use Rattle.iom_tlb.proofs.EmptyLemmas.{zeros}
 use Rattle.iom_tlb.proofs.KeyLemmas.{key_laws, one_key, apart_keys}
 use Rattle.iom_tlb.proofs.WordLemmas.{no_word, one_word}
 use Rattle.iom_tlb.proofs.WayLemmas.{Found, found_at, found_way, none_at, none_there, put_other, same_ways}
@@ -323,3 +324,30 @@ module _ (ways : Ways) (facts : AreWays ways) (at : Key) where
     pub puts_ways : AreWays new
     unfolding Bounds
     puts_ways = rw (puts.3) (are_ways ways facts at fits puts.0 bounds.0 t puts.1 bounds.2 bounds.1)
+
+-- WAYS EMPTIED, AND NOTHING ELSE
+pub none_emptied : (ways : Ways) → OnlyEmptied ways ways
+none_emptied ways = record { empty_or_same = λ way. inr refl; pages = refl; translations = refl; counter = refl }
+
+pub emptied_again : {old between new : Ways} → OnlyEmptied old between → OnlyEmptied between new → OnlyEmptied old new
+emptied_again first second = record {
+  empty_or_same = λ way. elim (second.empty_or_same way) [
+    | inl empty ↦ inl empty
+    | inr same ↦ elim (first.empty_or_same way) [
+      | inl empty ↦ inl (same ∙ empty)
+      | inr earlier ↦ inr (same ∙ earlier)
+    ]
+  ];
+  pages = second.pages ∙ first.pages;
+  translations = second.translations ∙ first.translations;
+  counter = second.counter ∙ first.counter;
+}
+
+-- those that pass a test
+pub emptied_by_test : (ways : Ways) (is_out : Key → Translation → Bool) (new : List ℕ) → Empties is_out ways.pages ways.translations ways.spaces new
+    → OnlyEmptied ways (record { spaces = new; pages = ways.pages; translations = ways.translations; next = ways.next })
+emptied_by_test ways is_out new empties = record { empty_or_same = empties.empty_or_same; pages = refl; translations = refl; counter = refl }
+
+-- all
+pub emptied_all : (ways : Ways) (many : ℕ) → OnlyEmptied ways (record { spaces = replicate many 0; pages = ways.pages; translations = ways.translations; next = ways.next })
+emptied_all ways many = record { empty_or_same = λ way. inl (zeros many way); pages = refl; translations = refl; counter = refl }

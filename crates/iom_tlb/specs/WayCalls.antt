@@ -63,9 +63,17 @@ PutsInSet old key translation new =
 abbrev pub AreCountersAtZero : List Ways → Type 0
 AreCountersAtZero sets = (number : ℕ) → (get_or sets number no_ways).next ≡ 0
 
--- they are as they were
-abbrev pub CountersUnchanged : List Ways → List Ways → Type 0
-CountersUnchanged old new = (number : ℕ) → (get_or new number no_ways).next ≡ (get_or old number no_ways).next
+-- ways of a set were emptied, and nothing else: each way has what it had, or is empty. So what stays is in the way in which it was. Page and translation
+-- of an emptied way are left, where nothing reads them
+pub record OnlyEmptied (old new : Ways) : Type 0 where
+  pub empty_or_same : (way : ℕ) → (get_or new.spaces way 0 ≡ 0) ⊎ (get_or new.spaces way 0 ≡ get_or old.spaces way 0)
+  pub pages : new.pages ≡ old.pages
+  pub translations : new.translations ≡ old.translations
+  pub counter : new.next ≡ old.next
+
+-- and so of each set
+abbrev pub AreOnlyEmptied : List Ways → List Ways → Type 0
+AreOnlyEmptied old new = (number : ℕ) → OnlyEmptied (get_or old number no_ways) (get_or new number no_ways)
 
 -- ways are empty now: each whose key and translation pass the test, and no other that had one
 pub record Empties (is_out : Key → Translation → Bool) (pages : List ℕ) (translations : List Translation) (old new : List ℕ) : Type 0 where

@@ -1,6 +1,6 @@
 ghost use Rattle.std.specs.Prelude.{◌≡◌, ◌≢◌, IfSome, false};
 ghost use Rattle.iom_tlb.specs.Content.{Key};
-ghost use Rattle.iom_tlb.specs.Covers.{covers, is_same_leaf};
+ghost use Rattle.iom_tlb.specs.Covers.{covers, is_same_leaf, named_page, named_key};
 ghost use Rattle.iom_tlb.specs.Entries.{is_key};
 ghost use Rattle.iom_tlb.specs.declared.trans_cache.Translation.{Translation};
 
@@ -72,7 +72,8 @@ impl Cover {
 
     /// The one key of which a translation from a leaf of 4 KiB is covered, where the cover leaves nothing of it open.
     pub(crate) fn only_key(&self) -> Option<(Space, u64)>
-        ensures { IfSome result (λ key. (other : Key) (cached : Translation) → cached.level ≡ 0
+        ensures named { result ≡ named_key self.now }
+        ensures only { IfSome result (λ key. (other : Key) (cached : Translation) → cached.level ≡ 0
             → covers self.now other cached ≡ is_key key other) }
     {
         match *self {
@@ -95,7 +96,8 @@ impl Cover {
 
     /// The one page of which translations from leaves of 4 KiB are covered, where the cover names it.
     pub(crate) fn only_page(&self) -> Option<u64>
-        ensures { IfSome result (λ page. (key : Key) (cached : Translation) → cached.level ≡ 0 → key.1 ≢ page
+        ensures named { result ≡ named_page self.now }
+        ensures only { IfSome result (λ page. (key : Key) (cached : Translation) → cached.level ≡ 0 → key.1 ≢ page
             → covers self.now key cached ≡ false) }
     {
         match *self {

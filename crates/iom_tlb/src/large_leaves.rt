@@ -1,6 +1,6 @@
 // Of which address spaces a translation may be there that came from a leaf above 4 KiB.
-ghost use Rattle.std.specs.Prelude.{◌≡◌, true, false};
-ghost use Rattle.iom_tlb.specs.Covers.{may_be_large, may_cover_large};
+ghost use Rattle.std.specs.Prelude.{◌≡◌, false};
+ghost use Rattle.iom_tlb.specs.Covers.{may_be_large, may_cover_large, nowhere_large, also_large, with_kept};
 ghost use Rattle.iom_tlb.specs.declared.space.Space.{Space};
 
 use crate::cover::Cover;
@@ -16,7 +16,9 @@ pub(crate) struct LargeLeaves {
 
 impl LargeLeaves {
     /// Nowhere.
-    pub(crate) fn none() -> LargeLeaves {
+    pub(crate) fn none() -> LargeLeaves
+        ensures { result ≡ nowhere_large }
+    {
         LargeLeaves {
             first: false,
             second: false,
@@ -35,10 +37,20 @@ impl LargeLeaves {
         }
     }
 
-    /// From now on there may be one of this address space too.
-    pub(crate) fn mark(&mut self, space: Space)
-        ensures marked { may_be_large self.new space ≡ true }
+    /// From now on there may be one of this address space too, if what is kept there came from such a leaf.
+    pub(crate) fn note_kept(&mut self, space: Space, level: u8)
+        ensures noted { self.new ≡ with_kept space level self.old }
+        ensures marked { may_be_large self.new space ≡ false → level ≡ 0 }
         ensures others { (other : Space) → may_be_large self.new other ≡ false → may_be_large self.old other ≡ false }
+    {
+        if level > 0 {
+            self.mark(space);
+        }
+    }
+
+    // One may be of this address space.
+    fn mark(&mut self, space: Space)
+        ensures { self.new ≡ also_large space self.old }
     {
         match space {
             Space::First { .. } => self.first = true,

@@ -1,11 +1,11 @@
 ghost use Rattle.std.specs.Prelude.{◌≡◌, ◌<◌, ◌%◌, ◌↔◌, ℕ, true, IfOk, IsTrue, IfSome, Some, length, get_or};
-ghost use Rattle.iom_tlb.specs.Content.{Key, Keeps, DropsWhere, HasNothing};
+ghost use Rattle.iom_tlb.specs.Content.{Key, TranslationsUnchanged, Keeps, DropsWhere, HasNothing};
 ghost use Rattle.iom_tlb.specs.Covers.{covers};
 ghost use Rattle.iom_tlb.specs.declared.trans_cache.Translation.{Translation};
 ghost use Rattle.iom_tlb.specs.Ways.{in_set, no_ways, content_of_sets};
 ghost use Rattle.iom_tlb.specs.declared.cached_page.CachedPage.{CachedPage};
 ghost use Rattle.iom_tlb.specs.Places.{IsCached, IsCachedAt, HavePlaces};
-ghost use Rattle.iom_tlb.specs.WayCalls.{AreSets, AreAtHome, AreCountersAtZero, CountersUnchanged, PutsInSet};
+ghost use Rattle.iom_tlb.specs.WayCalls.{AreSets, AreAtHome, AreCountersAtZero, AreOnlyEmptied, PutsInSet};
 
 use crate::cached_page::CachedPage;
 use crate::cover::Cover;
@@ -91,7 +91,7 @@ fn drop_in_all(sets: &mut [WaySet], cover: &Cover)
         (in_set (get_or sets.old number no_ways)) (in_set (get_or sets.new number no_ways)) }
     ensures home { (number : ℕ) → AreAtHome number (get_or sets.old number no_ways)
         → AreAtHome number (get_or sets.new number no_ways) }
-    ensures counters { CountersUnchanged sets.old sets.new }
+    ensures emptied { AreOnlyEmptied sets.old sets.new }
 {
     for number in 0..sets.len() {
         let set = &mut sets[number];
@@ -108,7 +108,7 @@ fn drop_small(sets: &mut [WaySet], cover: &Cover)
         → covers cover.now key cached ≡ true → cached.level ≡ 0 }
     ensures dropped { DropsWhere (covers cover.now) (content_of_sets sets.old) (content_of_sets sets.new) }
     ensures invariants { AreSets sets.new }
-    ensures counters { CountersUnchanged sets.old sets.new }
+    ensures emptied { AreOnlyEmptied sets.old sets.new }
 {
     if let Some((space, page)) = cover.only_key() {
         let set = &mut sets[set_of(page)];
@@ -125,7 +125,7 @@ fn drop_small(sets: &mut [WaySet], cover: &Cover)
 fn empty_all(sets: &mut [WaySet])
     ensures nothing { (number : ℕ) → HasNothing (in_set (get_or sets.new number no_ways)) }
     ensures home { (number : ℕ) → AreAtHome number (get_or sets.new number no_ways) }
-    ensures counters { CountersUnchanged sets.old sets.new }
+    ensures emptied { AreOnlyEmptied sets.old sets.new }
 {
     for number in 0..sets.len() {
         let set = &mut sets[number];
@@ -178,7 +178,11 @@ impl TransCache for WayCache {
         are_same_sets(&self.sets, &other.sets)
     }
 
-    fn look(&mut self, space: Space, page: u64) -> Option<Translation> {
+    fn look(&mut self, space: Space, page: u64) -> Option<Translation>
+        ensures found { result ≡ content_of_sets self.old (space, page) }
+        ensures unchanged { TranslationsUnchanged (content_of_sets self.old) (content_of_sets self.new) }
+        ensures stays { self.new ≡ self.old }
+    {
         let set = &self.sets[set_of(page)];
         set.look(space, page)
     }
@@ -189,16 +193,14 @@ impl TransCache for WayCache {
     {
         let set = &mut self.sets[set_of(page)];
         set.keep(space, page, translation);
-        if translation.level > 0 {
-            self.large.mark(space);
-        }
+        self.large.note_kept(space, translation.level);
     }
 
     // Written into the fetch of a command, where it is known which of the covers it is.
     #[inline(always)]
     fn drop_where(&mut self, cover: &Cover)
         ensures dropped { DropsWhere (covers cover.now) (content_of_sets self.old) (content_of_sets self.new) }
-        ensures counters { CountersUnchanged self.old self.new }
+        ensures emptied { AreOnlyEmptied self.old self.new }
     {
         if self.large.may_be_among(cover) {
             drop_in_all(&mut self.sets, cover);
@@ -209,7 +211,7 @@ impl TransCache for WayCache {
 
     fn drop_all(&mut self)
         ensures empty { HasNothing (content_of_sets self.new) }
-        ensures counters { CountersUnchanged self.old self.new }
+        ensures emptied { AreOnlyEmptied self.old self.new }
     {
         empty_all(&mut self.sets);
         self.large = LargeLeaves::none();

@@ -6,7 +6,7 @@ ghost use Rattle.iom_tlb.specs.declared.cached_page.CachedPage.{CachedPage};
 ghost use Rattle.iom_tlb.specs.Places.{IsInWay, HasWays};
 ghost use Rattle.iom_tlb.specs.Entries.{has_key};
 ghost use Rattle.iom_tlb.specs.Ways.{is_space, space_word, in_set};
-ghost use Rattle.iom_tlb.specs.WayCalls.{AreAtHome, TakesWay, PutsWay, Empties};
+ghost use Rattle.iom_tlb.specs.WayCalls.{AreAtHome, TakesWay, PutsWay, Empties, OnlyEmptied};
 ghost use Rattle.iom_tlb.specs.declared.space.Space.{Space};
 
 use crate::cached_page::CachedPage;
@@ -196,7 +196,7 @@ impl WaySet {
     pub(crate) fn drop_key(&mut self, space: Space, page: u64)
         ensures dropped { DropsWhere (has_key (space, page)) (in_set self.old) (in_set self.new) }
         ensures home { (number : ℕ) → AreAtHome number self.old → AreAtHome number self.new }
-        ensures counter { self.new.next ≡ self.old.next }
+        ensures emptied { OnlyEmptied self.old self.new }
     {
         if let Some(way) = find_way(&self.spaces, &self.pages, space_word(space), page) {
             self.spaces[way] = 0;
@@ -207,7 +207,7 @@ impl WaySet {
     pub(crate) fn drop_where(&mut self, cover: &Cover)
         ensures dropped { DropsWhere (covers cover.now) (in_set self.old) (in_set self.new) }
         ensures home { (number : ℕ) → AreAtHome number self.old → AreAtHome number self.new }
-        ensures counter { self.new.next ≡ self.old.next }
+        ensures emptied { OnlyEmptied self.old self.new }
     {
         empty_covered(&mut self.spaces, &self.pages, &self.translations, cover);
     }
@@ -216,7 +216,7 @@ impl WaySet {
     pub(crate) fn drop_all(&mut self)
         ensures nothing { HasNothing (in_set self.new) }
         ensures home { (number : ℕ) → AreAtHome number self.new }
-        ensures counter { self.new.next ≡ self.old.next }
+        ensures emptied { OnlyEmptied self.old self.new }
     {
         self.spaces = [0; WAYS];
     }

@@ -1,9 +1,9 @@
-use Rattle.std.proofs.Common.{◌≡◌, ◌∙◌, ◌≢◌, ◌<◌, ◌+◌, length, get_or, subst, ap, arith}
+use Rattle.std.proofs.Common.{◌∙◌, ◌≢◌, ◌<◌, ◌+◌, length, get_or, subst, arith}
 use Rattle.std.proofs.lemmas.List.{get_or_default, get_or-set_other}
 use Rattle.iom_tlb.specs.Content.{DropsWhere}
 use Rattle.iom_tlb.specs.Covers.{covers}
 use Rattle.iom_tlb.specs.Ways.{in_set, no_ways}
-use Rattle.iom_tlb.specs.WayCalls.{AreAtHome}
+use Rattle.iom_tlb.specs.WayCalls.{AreAtHome, OnlyEmptied}
 use Rattle.iom_tlb.proofs.CacheLemmas.{changed}
 use Rattle.iom_tlb.proofs.way_cache.drop_in_all.Goals as goal
 
@@ -21,7 +21,8 @@ loop-number-preserved c =
       home = changed (λ k s. AreAtHome k (get_or old k no_ways) → AreAtHome k s) c.loop-number.sets n new within
           (subst (λ s. AreAtHome n s → AreAtHome n new) read (c.drop_where.ensures.home n))
           (λ k ne. c.loop-number.invariant.home k);
-      counters = changed (λ k s. s.next ≡ (get_or old k no_ways).next) c.loop-number.sets n new within (c.drop_where.ensures.counter ∙ ap (λ s. s.next) read)
-          (λ k ne. c.loop-number.invariant.counters k);
+      emptied = changed (λ k s. OnlyEmptied (get_or old k no_ways) s) c.loop-number.sets n new within
+          (subst (λ s. OnlyEmptied s new) read c.drop_where.ensures.emptied)
+          (λ k ne. c.loop-number.invariant.emptied k);
       rest = λ k le. let ne : k ≢ n = omega arith in get_or-set_other c.loop-number.sets n k new no_ways ne ∙ c.loop-number.invariant.rest k (omega arith);
     }

@@ -16,8 +16,8 @@ returns-in-Some-clause-dropped c =
     let within : number < length sets = omega (arith, c.requires.invariants.0, c.set_of.ensures) in
     dropped_in_one sets number _ c.drop_key.new.self within (get_or_default sets number c.index-sets-set_of.result no_ways within)
     (has_key (c.in-Some.space, c.in-Some.page)) (covers cover) c.drop_key.ensures.dropped
-    (λ key t at own. one_key_goes cover (content_of_sets sets) c.requires.small (c.in-Some.space, c.in-Some.page) c.in-Some.ensures key t at)
-    (λ key t at apart. key_elsewhere cover (content_of_sets sets) c.requires.small (c.in-Some.space, c.in-Some.page) c.in-Some.ensures key t at (λ same. apart (same ∙ sym c.set_of.ensures)))
+    (λ key t at own. one_key_goes cover (content_of_sets sets) c.requires.small (c.in-Some.space, c.in-Some.page) c.in-Some.ensures.only key t at)
+    (λ key t at apart. key_elsewhere cover (content_of_sets sets) c.requires.small (c.in-Some.space, c.in-Some.page) c.in-Some.ensures.only key t at (λ same. apart (same ∙ sym c.set_of.ensures)))
 
 pub returns-in-Some-clause-invariants : goal.returns-in-Some-clause-invariants
 returns-in-Some-clause-invariants c =
@@ -34,7 +34,7 @@ returns-in-Some-only_page-clause-dropped c =
     let within : number < length sets = omega (arith, c.requires.invariants.0, c.set_of-in-Some-only_page.ensures) in
     dropped_in_one sets number _ c.drop_where.new.self within (get_or_default sets number c.index-sets-set_of-in-Some-only_page.result no_ways within)
     (covers cover) (covers cover) c.drop_where.ensures.dropped (λ key t at own. refl)
-    (λ key t at apart. page_elsewhere cover (content_of_sets sets) c.requires.small c.in-Some-only_page.page c.in-Some-only_page.ensures key t at
+    (λ key t at apart. page_elsewhere cover (content_of_sets sets) c.requires.small c.in-Some-only_page.page c.in-Some-only_page.ensures.only key t at
     (λ same. apart (same ∙ sym c.set_of-in-Some-only_page.ensures)))
 
 pub returns-in-Some-only_page-clause-invariants : goal.returns-in-Some-only_page-clause-invariants
