@@ -3,7 +3,7 @@ ghost use Rattle.std.specs.Prelude.{◌≡◌, IfOk};
 ghost use Rattle.iom_base.specs.Accesses.{write_of};
 ghost use Rattle.iom_virtio_blk.specs.Blocks.{wanted_by};
 ghost use Rattle.iom_block_devices.specs.Changes.{block_with};
-ghost use Rattle.iom_block_devices.specs.Wanted.{wanted_of, wanted_access};
+ghost use Rattle.iom_block_devices.specs.Wanted.{wanted_of, wanted_access, wanted_at};
 ghost use Rattle.iom_block_devices.specs.Shown.{shown_blocks};
 
 use crate::block::Block;
@@ -12,6 +12,10 @@ use iom_base::{Access, AccessKind, DeviceId, Sequence};
 use iom_virtio_blk::{Blk, Disk, WantedAccess};
 use iom_virtqueue::Want;
 use std::alloc::{AllocError, Global};
+
+/// The status of a block device that works: ACKNOWLEDGE 1, DRIVER 2, DRIVER_OK 4 and FEATURES_OK 8, and no
+/// DEVICE_NEEDS_RESET.
+const WORKS: u8 = 15;
 
 /// A write of the bytes.
 fn write_of(alloc: Global, address: u64, bytes: &[u8]) -> Result<Access, AllocError>
@@ -48,8 +52,18 @@ fn wanted_by<D: Disk>(alloc: Global, blk: &Blk<D>) -> Result<Option<Access>, All
     }
 }
 
-/// The access that the block device with this id wants, or waits for where it began that. None where it wants none, or
-/// there is none with the id.
+/// The access that this block device wants, where it works.
+fn wanted_where_ready<D: Disk>(alloc: Global, blk: &Blk<D>) -> Result<Option<Access>, AllocError>
+    ensures { IfOk result (λ access. access ≡ wanted_at blk.now.front.stage blk.now.front) }
+{
+    if blk.status() != WORKS {
+        return Ok(None);
+    }
+    wanted_by(alloc, blk)
+}
+
+/// The access that the block device with this id wants, or waits for where it began that. None where it wants none, as
+/// before its driver is ready, or there is none with the id.
 pub fn wanted<D: Disk>(
     alloc: Global,
     blocks: &[Block<D>],
@@ -58,7 +72,7 @@ pub fn wanted<D: Disk>(
     ensures { IfOk result (λ access. access ≡ wanted_of (block_with (shown_blocks D.shown blocks.now) id)) }
 {
     match place_of(blocks, id) {
-        Some(place) => wanted_by(alloc, &blocks[place].blk),
+        Some(place) => wanted_where_ready(alloc, &blocks[place].blk),
         None => Ok(None),
     }
 }
