@@ -144,6 +144,28 @@ lowest_of_both one other some fits k is =
     had : (m x y : ℕ) → m ≡ min x y → x < 2 → y < 2 → m ≡ 1 → (x ≡ 1) × (y ≡ 1)
     had m x y least small short whole = (omega arith, omega arith)
 
+-- none is lower
+pub none_lower : (one other : ℕ) → bit_and one other ≢ 0 → bit_and one other < 2 ^ 64 → (k : ℕ) → k ≡ trailing_zeros w64 (bit_and one other)
+    → (j : ℕ) → j < k → ¬ ((bit_at one j ≡ 1) × (bit_at other j ≡ 1))
+none_lower one other some fits k is j below (mine, its) =
+    let (within, set, lowest) = bit_at-trailing_zeros w64 (bit_and one other) (omega (arith, some)) fits in
+    omega (arith, lowest j (omega (arith, is, below)), bit_at_and one other j, mine, its)
+
+pub none_below : (one other : List ℕ) (index k : ℕ) → index < 64 → k < 64
+    → ((j : ℕ) → j < k → ¬ ((bit_at (get_or one index 0) j ≡ 1) × (bit_at (get_or other index 0) j ≡ 1)))
+    → ((f : ℕ) → f < 64 * index → ¬ StandInBoth one other f) → (f : ℕ) → f < 64 * index + k → ¬ StandInBoth one other f
+none_below one other index k low small none before f within (has_one, has_other) = by (cases_lt f (64 * index))
+  where
+    here : (j : ℕ) → j < k → f ≡ 64 * index + j → ⊥
+    here j lower is =
+        let a = eqb-true _ 1 (sym (has_place one index j low (omega (arith, lower, small))) ∙ ap (λ g. row_has one g) (sym is) ∙ has_one) in
+        let b = eqb-true _ 1 (sym (has_place other index j low (omega (arith, lower, small))) ∙ ap (λ g. row_has other g) (sym is) ∙ has_other) in
+        none j lower (a, b)
+
+    by : (f < 64 * index) ⊎ (64 * index ≤ f) → ⊥
+    by (inl below) = before f below (has_one, has_other)
+    by (inr above) = here (f - 64 * index) (omega (arith, above, within)) (omega (arith, above))
+
 pub no_common_at : (one other : List ℕ) (index : ℕ) → index < 64 → bit_and (get_or one index 0) (get_or other index 0) ≡ 0
     → ((f : ℕ) → f < 64 * index → ¬ StandInBoth one other f) → (f : ℕ) → f < 64 * (index + 1) → ¬ StandInBoth one other f
 no_common_at one other index low none before f within (has_one, has_other) = by (cases_lt f (64 * index))

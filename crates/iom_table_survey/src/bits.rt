@@ -26,6 +26,7 @@ pub(crate) fn has_bit(word: u64, place: usize) -> bool
 /// The lowest bit that is set in both words.
 pub(crate) fn first_in_both(one: u64, other: u64) -> Option<u32>
     ensures some { IfSome result (λ k. (k < 64) × (bit_at one k ≡ 1) × (bit_at other k ≡ 1)) }
+    ensures lowest { IfSome result (λ k. (j : ℕ) → j < k → ¬ ((bit_at one j ≡ 1) × (bit_at other j ≡ 1))) }
     ensures none { IfNone result (bit_and one other ≡ 0) }
 {
     let both = one & other;

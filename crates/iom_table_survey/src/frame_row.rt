@@ -112,6 +112,7 @@ impl FrameRow {
     /// The first frame that is in both sets; 4,096, where no other is, and each has some frame from there on.
     pub fn first_common(&self, other: &FrameRow) -> Option<u64>
         ensures some { IfSome result (λ f. StandInBoth self.now other.now f × (f ≤ 4096)) }
+        ensures first { IfSome result (λ f. (g : ℕ) → g < f → ¬ StandInBoth self.now other.now g) }
         ensures none { IfNone result ((f : ℕ) → ¬ StandInBoth self.now other.now f) }
     {
         for index in 0..WORDS - 1 {
