@@ -88,7 +88,7 @@ module _ (rows : List WalkRow) (device place : ℕ) (found : WalkRow) (stands : 
   sound_loads_at memory cached loaded.GoesOn new invariants is =
       let sound = found_sound is.under_way invariants is.walks in
       sound_own new (row_going_on found is.under_way is.walk) is.after refl invariants
-      (record { own = sound.own; of_request = is.of_request; within = sound.within; carries = sound.carries })
+      (record { own = sound.own; of_request = is.of_request; served = tt; within = sound.within; carries = sound.carries })
   sound_loads_at memory cached (loaded.Ended ended) new invariants is = sound_own new (idle_row found) is.after refl invariants tt
 
   -- a request begins
@@ -96,7 +96,7 @@ module _ (rows : List WalkRow) (device place : ℕ) (found : WalkRow) (stands : 
       → request.device ≡ device → request_of walk ≡ request → FitsInPage request.asked.address len → CarriesBytes request.asked.kind len bytes → AreWalks (set rows place new)
   sound_walks_at request len bytes walk new invariants is named of_request within carries =
       sound_own new (row_walking found request len bytes walk) is refl invariants
-      (record { own = named ∙ sym own; of_request = of_request; within = within; carries = carries })
+      (record { own = named ∙ sym own; of_request = of_request; served = tt; within = within; carries = carries })
 
   pub starts_at : (walk : RequestWalk) (len : ℕ) (bytes : List ℕ) (new : WalkRow) → new ≡ row_walking found (request_of walk) len bytes walk
       → StartsThere rows device walk len bytes (set rows place new)

@@ -5,6 +5,7 @@ use Rattle.iom_registers.specs.declared.directory.DirectoryPointer.{DirectoryPoi
 use Rattle.iom_walks.specs.Calls.{AllBeginAnew, OneBeginsAnew, WhatBeginsAnew}
 use Rattle.iom_walks.specs.Invariant.{AreDistinct, AreWalks, RowInvariant, RowsInvariant, UnderWayInvariant}
 use Rattle.iom_walks.specs.Walks.{UnderWay, WalkRow, new_row, row_of, with_row}
+use Rattle.iom_walks.proofs.NoFrame.{anew_names_no_frame}
 use Rattle.iom_walks.proofs.Rows.{differs, length-with_row, row_of_append_other}
 
 -- the row of a device is sound
@@ -100,6 +101,7 @@ one_anew : (ddtp : DirectoryPointer) (device : ℕ) (bytes : List ℕ) (old new 
 one_anew ddtp device bytes old new anew is = record {
   own = rw anew.request is.own;
   of_request = anew.of_request;
+  served = anew_names_no_frame ddtp old.request new.serving anew.begun;
   within = rw (anew.request, anew.len) is.within;
   carries = rw (anew.request, anew.len) is.carries;
 }

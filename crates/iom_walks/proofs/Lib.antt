@@ -1,3 +1,5 @@
+mod NoFrame
+pub mod Frames
 pub mod Rows
 mod Kept
 mod ByPlace

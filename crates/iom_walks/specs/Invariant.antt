@@ -4,6 +4,8 @@ use Rattle.iom_base.specs.Sizes.{device_limit}
 use Rattle.iom_base.specs.Spans.{FitsInPage}
 use Rattle.iom_inflight.specs.Invariant.{CarriesBytes}
 use Rattle.iom_stepped_requests.specs.Standing.{request_of}
+use Rattle.iom_stepped_requests.specs.declared.request.Answer.{Answer}
+use Rattle.iom_stepped_requests.specs.declared.request.Answer.TheVariants.{AsItIs, Cached, Reaches, Faults}
 use Rattle.iom_stepped_requests.specs.declared.request.Request.{Request}
 use Rattle.iom_stepped_requests.specs.declared.walk.Serving.{Serving}
 use Rattle.iom_stepped_requests.specs.declared.walk.Serving.TheVariants.{GoesOn, Served}
@@ -14,10 +16,22 @@ abbrev pub IsOfRequest : Request → Serving → Type 0
 IsOfRequest request (GoesOn walk) = request_of walk ≡ request
 IsOfRequest request (Served answer) = Unit {0}
 
+-- one that is served while it is under way was begun anew where there is no directory, or its id is too wide for it: its answer names no frame
+abbrev pub NamesNoFrame : Answer → Type 0
+NamesNoFrame AsItIs = Unit {0}
+NamesNoFrame (Cached translation) = ⊥
+NamesNoFrame (Reaches walked) = ⊥
+NamesNoFrame (Faults fault) = Unit {0}
+
+abbrev pub IsServedAtMost : Serving → Type 0
+IsServedAtMost (GoesOn walk) = Unit {0}
+IsServedAtMost (Served answer) = NamesNoFrame answer
+
 -- a request of the device that may be under way: its bytes are within a page, and these are those of a write
 pub record UnderWayInvariant (device : ℕ) (bytes : List ℕ) (under_way : UnderWay) : Type 0 where
   pub own : under_way.request.device ≡ device
   pub of_request : IsOfRequest under_way.request under_way.serving
+  pub served : IsServedAtMost under_way.serving
   pub within : FitsInPage under_way.request.asked.address under_way.len
   pub carries : CarriesBytes under_way.request.asked.kind under_way.len bytes
 
