@@ -1,6 +1,7 @@
 pub mod CachedLemmas
 pub mod ByAnswer
 pub mod FenceLemmas
+pub mod SteppedLemmas
 mod ForeseenLemmas
 pub mod FetchLemmas
 pub mod LookLemmas

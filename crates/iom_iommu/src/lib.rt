@@ -21,6 +21,7 @@
 //! fence waits until none is open, or until a timeout gives it up ([`Iommu::timeout`]).
 #![tactic(auto)]
 
+mod begun;
 mod building;
 mod commands;
 mod contexts;
@@ -38,10 +39,12 @@ mod requests;
 mod same;
 mod service;
 mod software;
+mod stepped;
 mod timeouts;
 mod translated;
 mod translations;
 
+pub use begun::{Begun, Load};
 pub use fetched::Fetched;
 pub use front::Front;
 pub use iommu::Iommu;
