@@ -19,6 +19,8 @@ mod fences;
 #[cfg(test)]
 mod invalidations;
 #[cfg(test)]
+mod loads;
+#[cfg(test)]
 mod questions;
 #[cfg(test)]
 mod records;

@@ -30,7 +30,8 @@ use Rattle.iom_tlb.specs.declared.trans_cache.Translation.{Translation}
 use Rattle.iom_walk_stops.specs.Stages.{page_of, stages_of}
 use Rattle.iom_walk_stops.specs.declared.stages.Stages.{Stages}
 use Rattle.iom_walk_stops.specs.declared.stages.Stages.TheVariants.{First, Second, Both}
-use Rattle.iom_stepped_service.specs.Service.{KeepsContextIfAny, KeepsIfAny, translation_by}
+use Rattle.iom_iommu.specs.Stepped.{translation_by}
+use Rattle.iom_stepped_service.specs.Service.{KeepsContextIfAny, KeepsIfAny}
 
 -- both choose the cached context
 same_context : (cached : Option Context) (located : Result Context Cause) → cached_or cached located ≡ found_context cached located
@@ -68,9 +69,9 @@ nothing_as_it_is request (Ok context) = by (stages_of context.first_stage contex
 looks_or_walks : (sure : Bool) (memory : List (List ℕ)) (request : Request) (context : Context) (stages : Stages) (cached new : Translations) (looked : Option Translation) (answer : Answer)
     → AnswersByStages memory request looked (Some stages) answer → KeepsIfAny sure cached (told_by_stages request context (Some stages) answer) new
     → LooksOrWalks sure looked (ReachesIn stages memory request.asked.address request.asked.kind) (StopsIn stages memory request.asked.address request.asked.kind)
-    (key_of request (space_of context stages)) cached (translation_by memory request answer) new
+    (key_of request (space_of context stages)) cached (translation_by memory request.asked.address request.asked.kind answer) new
 looks_or_walks sure memory request context stages cached new (Some translation) answer is keeps =
-    (ap (translation_by memory request) is, subst (λ a. KeepsIfAny sure cached (told_by_stages request context (Some stages) a) new) is keeps)
+    (ap (translation_by memory request.asked.address request.asked.kind) is, subst (λ a. KeepsIfAny sure cached (told_by_stages request context (Some stages) a) new) is keeps)
 looks_or_walks sure memory request context stages cached new None AsItIs none keeps = absurd none
 looks_or_walks sure memory request context stages cached new None (Cached translation) none keeps = absurd none
 looks_or_walks sure memory request context stages cached new None (Reaches walked) reaches keeps = (walked, reaches, refl, keeps)
@@ -81,7 +82,7 @@ looked_up : (sure : Bool) (memory : List (List ℕ)) (request : Request) (contex
     → KeepsIfAny sure cached (told_by_stages request context (Some stages) answer) new
     → LooksOrWalks sure (cached_for (cached (key_of request (space_of context stages))) request.asked.kind)
     (ReachesIn stages memory request.asked.address request.asked.kind) (StopsIn stages memory request.asked.address request.asked.kind)
-    (key_of request (space_of context stages)) cached (translation_by memory request answer) new
+    (key_of request (space_of context stages)) cached (translation_by memory request.asked.address request.asked.kind answer) new
 looked_up sure memory request context stages cached new answer is keeps =
     let found = cached (key_of request (space_of context stages)) in
     looks_or_walks sure memory request context stages cached new (cached_for found request.asked.kind) answer
@@ -91,8 +92,8 @@ looked_up sure memory request context stages cached new answer is keeps =
 by_stages : (sure : Bool) (memory : List (List ℕ)) (request : Request) (context : Context) (first : FirstStage) (second : SecondStage) (cached new : Translations) (answer : Answer)
     → AnswersByStages memory request (cached_through cached request context (stages_of first second)) (stages_of first second) answer
     → KeepsIfAny sure cached (told_by_stages request context (stages_of first second) answer) new
-    → Translates sure first second context memory request.asked.address request.asked.kind cached (translation_by memory request answer) new
-by_stages sure memory request context Bare second.Bare cached new answer is keeps = (ap (translation_by memory request) is, keeps)
+    → Translates sure first second context memory request.asked.address request.asked.kind cached (translation_by memory request.asked.address request.asked.kind answer) new
+by_stages sure memory request context Bare second.Bare cached new answer is keeps = (ap (translation_by memory request.asked.address request.asked.kind) is, keeps)
 by_stages sure memory request context (Tables size root) second.Bare cached new answer is keeps =
     looked_up sure memory request context (First size root) cached new answer is keeps
 by_stages sure memory request context Bare (second.Tables size root) cached new answer is keeps =
@@ -103,21 +104,21 @@ by_stages sure memory request context (Tables first_size first) (second.Tables s
 -- by the context that was found
 by_context : (sure : Bool) (memory : List (List ℕ)) (request : Request) (found : Result Context Cause) (cached new : Translations) (answer : Answer)
     → AnswersByContext memory cached request found answer → KeepsIfAny sure cached (translation_to_keep request found answer) new
-    → ServesBy sure found memory request.asked.address request.asked.kind cached (translation_by memory request answer) new
+    → ServesBy sure found memory request.asked.address request.asked.kind cached (translation_by memory request.asked.address request.asked.kind answer) new
 by_context sure memory request (Ok context) cached new answer is keeps =
     by_stages sure memory request context context.first_stage context.second_stage cached new answer is keeps
-by_context sure memory request (Err cause) cached new answer is keeps = (ap (translation_by memory request) is, keeps)
+by_context sure memory request (Err cause) cached new answer is keeps = (ap (translation_by memory request.asked.address request.asked.kind) is, keeps)
 
 -- by ddtp's mode
 by_mode : (sure : Bool) (memory : List (List ℕ)) (request : Request) (directory : DirectoryMode) (found : Result Context Cause) (cached new : Translations) (answer : Answer)
     → AnswersUnless (without_directory directory) memory cached request found answer → KeepsIfAny sure cached (translation_to_keep request found answer) new
-    → ServesIn sure directory found memory request.asked.address request.asked.kind cached (translation_by memory request answer) new
+    → ServesIn sure directory found memory request.asked.address request.asked.kind cached (translation_by memory request.asked.address request.asked.kind answer) new
 by_mode sure memory request mode.Off found cached new answer is keeps = (
-  ap (translation_by memory request) is,
+  ap (translation_by memory request.asked.address request.asked.kind) is,
   subst (λ kept. KeepsIfAny sure cached kept new) (ap (translation_to_keep request found) is ∙ nothing_of_fault request found (plain AllInboundDisallowed)) keeps,
 )
 by_mode sure memory request mode.Bare found cached new answer is keeps = (
-  ap (translation_by memory request) is,
+  ap (translation_by memory request.asked.address request.asked.kind) is,
   subst (λ kept. KeepsIfAny sure cached kept new) (ap (translation_to_keep request found) is ∙ nothing_as_it_is request found) keeps,
 )
 by_mode sure memory request mode.OneLevel found cached new answer is keeps = by_context sure memory request found cached new answer is keeps
@@ -127,10 +128,10 @@ by_mode sure memory request mode.ThreeLevels found cached new answer is keeps = 
 pub answers_serve : (sure : Bool) (memory : List (List ℕ)) (r : Registers) (request : Request) (contexts : Content ℕ Context) (cached new : Translations) (answer : Answer)
     → Answers memory r.ddtp (contexts request.device) cached request answer
     → KeepsIfAny sure cached (translation_to_keep request (context_of memory r.ddtp (contexts request.device) request.device) answer) new
-    → Serves sure memory r contexts request.device request.asked.address request.asked.kind cached (translation_by memory request answer) new
+    → Serves sure memory r contexts request.device request.asked.address request.asked.kind cached (translation_by memory request.asked.address request.asked.kind answer) new
 answers_serve sure memory r request contexts cached new answer is keeps =
     let found = context_of memory r.ddtp (contexts request.device) request.device in
-    subst (λ f. ServesIn sure r.ddtp.mode f memory request.asked.address request.asked.kind cached (translation_by memory request answer) new)
+    subst (λ f. ServesIn sure r.ddtp.mode f memory request.asked.address request.asked.kind cached (translation_by memory request.asked.address request.asked.kind answer) new)
     (same_found (fits_directory r.ddtp.mode request.device) (contexts request.device) (located_context memory r.ddtp request.device))
     (by_mode sure memory request r.ddtp.mode found cached new answer is keeps)
 

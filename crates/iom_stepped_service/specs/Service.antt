@@ -1,27 +1,19 @@
 -- A request by single loads beside one that is served at once (RISC-V IOMMU specification, section 2.3, "Process to translate an IOVA", and section 2.8,
 -- "Caching in-memory data structures").
-use Rattle.std.specs.Prelude.{ℕ, Bool, List, length, Option, None, Some, Result, Ok, Err}
+use Rattle.std.specs.Prelude.{ℕ, Bool, List, length, Option, None, Some}
 use Rattle.iom_device_dir.specs.Contents.{Content, IsSameContent, KeepsOne}
 use Rattle.iom_device_dir.specs.declared.context.Context.{Context}
-use Rattle.iom_iommu.specs.Service.{KeepsContext, Serves, own_page, translation_of}
+use Rattle.iom_iommu.specs.Service.{KeepsContext, Serves}
+use Rattle.iom_iommu.specs.Stepped.{translation_by}
 use Rattle.iom_registers.specs.declared.registers.Registers.{Registers}
-use Rattle.iom_stage_walk.specs.declared.walked.WalkFault.{WalkFault}
 use Rattle.iom_stepped_requests.specs.Keeping.{keeping}
 use Rattle.iom_stepped_requests.specs.Serving.{Remaining, begin}
 use Rattle.iom_stepped_requests.specs.Whole.{walk_on}
 use Rattle.iom_stepped_requests.specs.declared.request.Answer.{Answer}
-use Rattle.iom_stepped_requests.specs.declared.request.Answer.TheVariants.{AsItIs, Cached, Reaches, Faults}
 use Rattle.iom_stepped_requests.specs.declared.request.Request.{Request}
 use Rattle.iom_tlb.specs.Content.{Key, Keeps, Translations, TranslationsUnchanged}
 use Rattle.iom_tlb.specs.declared.trans_cache.Translation.{Translation}
 use Rattle.iom_walk_loads.specs.Loads.{made_from}
-
--- the translation that an answer gives, or the fault for which it has none
-abbrev pub translation_by : List (List ℕ) → Request → Answer → Result Translation WalkFault
-translation_by memory request AsItIs = own_page memory request.asked.address request.asked.kind
-translation_by memory request (Cached translation) = Ok translation
-translation_by memory request (Reaches walked) = Ok (translation_of walked)
-translation_by memory request (Faults fault) = Err fault
 
 -- the cache of translations, where this is kept in it, or nothing
 abbrev pub KeepsIfAny : Bool → Translations → Option (Key × Translation) → Translations → Type 0
@@ -48,4 +40,4 @@ RunsServe = (sure : Bool) (memory : List (List ℕ)) (r : Registers) (request : 
     → KeepsIfAny sure cached (keeping memory cached (begun memory r contexts cached request)).translation new_cached
     → KeepsContext memory r contexts request.device new_contexts
     × Serves sure memory r contexts request.device request.asked.address request.asked.kind cached
-    (translation_by memory request (answer_of_run memory r contexts cached request)) new_cached
+    (translation_by memory request.asked.address request.asked.kind (answer_of_run memory r contexts cached request)) new_cached

@@ -7,7 +7,7 @@ use Rattle.iom_registers.specs.declared.registers.Registers.{Registers}
 use Rattle.iom_stepped_requests.specs.Keeping.{Keeping, keeping}
 use Rattle.iom_stepped_requests.specs.declared.request.Request.{Request}
 use Rattle.iom_tlb.specs.Content.{Translations}
-use Rattle.iom_stepped_service.specs.Service.{KeepsContextIfAny, KeepsIfAny, answer_of_run, begun, translation_by}
+use Rattle.iom_stepped_service.specs.Service.{KeepsContextIfAny, KeepsIfAny, answer_of_run, begun}
 use Rattle.iom_stepped_service.proofs.ServiceLemmas.{answers_serve, contexts_kept}
 use Rattle.iom_stepped_service.proofs.laws.service_law.Goals as goal
 
