@@ -6,7 +6,7 @@ use std::alloc::Global;
 use std::fs;
 
 /// The worked scripts of `data/rows`. A new one is its two files and a line here.
-pub(crate) static ROWS: [&str; 59] = [
+pub(crate) static ROWS: [&str; 60] = [
     "empty-script",
     "first-path",
     "grant-boundaries",
@@ -66,6 +66,7 @@ pub(crate) static ROWS: [&str; 59] = [
     "guest-sizes",
     "guests-of-both-sizes",
     "another-size",
+    "example-of-the-front-page",
 ];
 
 /// Those whose scripts have a line `settle`, which a trace hasn't: these aren't judged.
