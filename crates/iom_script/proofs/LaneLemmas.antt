@@ -30,18 +30,36 @@ AreValues values = AllByRecursion (λ value. value < 16) values
 pub slice_bytes : (text : List ℕ) → ((k : ℕ) → Fits w8 (get_or text k 0)) → AreBytes text
 slice_bytes text fit = Each1-from_get_or (Fits w8) text 0 (λ k lt. fit k)
 
--- the value in one lane
+-- a number is subtracted from a lane with saturation
+abbrev without : ℕ → ℕ → ℕ
+without x c = minus (cond (top 7 (less x c)) c x) c
+
+-- the value in one lane as a decimal digit, as a letter, and as either
+abbrev lane_decimal : ℕ → ℕ
+lane_decimal x = plus (without (minus x 58) 6) 16
+
+abbrev lane_letter : ℕ → ℕ
+lane_letter x = minus 255 (without (minus 96 x) 10)
+
 abbrev lane_value : ℕ → ℕ
-lane_value x = cond (top 7 (less (minus x 48) 10)) (minus x 48) (cond (top 7 (less (minus x 97) 6)) (plus (minus x 97) 10) 255)
+lane_value x = cond (top 7 (less (lane_decimal x) (lane_letter x))) (lane_decimal x) (lane_letter x)
 
 lane_is : (x : ℕ) → x < 256 → lane_value x ≡ value_of_digit x
 lane_is x small = eqb-true (lane_value x) (value_of_digit x) (agree_below_at (λ x. nat_eq (lane_value x) (value_of_digit x)) (λ _. true) 256 x refl small)
 
+-- a number is subtracted from all lanes with saturation
+abbrev all_without : ℕ → List ℕ → ℕ → List ℕ
+all_without n xs c = zip2 minus (sel_l (map (top 7) (zip2 less xs (replicate n c))) (replicate n c) xs) (replicate n c)
+
 -- the values in all lanes
+abbrev all_decimal : ℕ → List ℕ → List ℕ
+all_decimal n xs = zip2 plus (all_without n (zip2 minus xs (replicate n 58)) 6) (replicate n 16)
+
+abbrev all_letter : ℕ → List ℕ → List ℕ
+all_letter n xs = zip2 minus (replicate n 255) (all_without n (zip2 minus (replicate n 96) xs) 10)
+
 pub lanes_are : (n : ℕ) (xs : List ℕ) → length xs ≡ n → AreBytes xs
-    → sel_l (map (top 7) (zip2 less (zip2 minus xs (replicate n 48)) (replicate n 10))) (zip2 minus xs (replicate n 48))
-    (sel_l (map (top 7) (zip2 less (zip2 minus xs (replicate n 97)) (replicate n 6))) (zip2 plus (zip2 minus xs (replicate n 97)) (replicate n 10)) (replicate n 255))
-    ≡ map value_of_digit xs
+    → sel_l (map (top 7) (zip2 less (all_decimal n xs) (all_letter n xs))) (all_decimal n xs) (all_letter n xs) ≡ map value_of_digit xs
 lanes_are zero [] e fit = refl
 lanes_are zero (x ∷ xs) e fit = absurd (omega (arith, e))
 lanes_are (suc n) [] e fit = absurd (omega (arith, e))
@@ -82,7 +100,7 @@ all_32_are_values xs long =
 
 -- a lane of two values, the first in the lower byte, and the byte that has them
 abbrev lane_byte : ℕ → ℕ
-lane_byte pair = (pair % 256 * 16 % 65536 + pair / 256) % 65536
+lane_byte pair = pair * 4097 % 65536 / 256
 
 abbrev lane_bytes : ℕ → List ℕ → List ℕ
 lane_bytes n values = map lane_byte (digits_l 65536 n (number_l 256 values))

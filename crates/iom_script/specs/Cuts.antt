@@ -1,5 +1,5 @@
 -- A line taken apart from the left: what the private functions between the words and the events return. No public contract cites it.
-use Rattle.std.specs.Prelude.{◌≡◌, ◌≢◌, ℕ, ◌-◌, ◌*◌, ◌^◌, ◌<◌, ◌≤◌, ◌&&◌, if◌then◌else◌, nat_le, All, List, [], ◌∷◌, ◌++◌, codes, length, take, slice_index, Contains, Option, option_map}
+use Rattle.std.specs.Prelude.{◌≡◌, ◌≢◌, ℕ, ◌+◌, ◌-◌, ◌*◌, ◌%◌, ◌^◌, ◌<◌, ◌≤◌, min, All, List, [], ◌∷◌, ◌++◌, codes, length, take, slice_index, Contains, Option, option_map}
 use Rattle.std.specs.Borrow.{Bor}
 use Rattle.std.specs.Int.{IsInRange}
 use Rattle.std.specs.Str.Parse.{AllDigits, digits_value}
@@ -101,6 +101,10 @@ IsLineWith start line event = IsLineOf (start ∷ []) line event
 abbrev pub single_starts : List (List ℕ)
 single_starts = codes "poll" ∷ codes "fetch" ∷ codes "faults" ∷ codes "restart" ∷ codes "timeout" ∷ []
 
+-- how the lines begin of the reads and the writes for which a device asks
+abbrev pub starts_of_requests : List (List ℕ)
+starts_of_requests = codes "read " ∷ codes "write " ∷ []
+
 -- how the lines of more than a word begin whose first letter is `a`
 abbrev pub starts_under_a : List (List ℕ)
 starts_under_a = codes "aread " ∷ codes "ask " ∷ codes "attach " ∷ codes "awrite " ∷ []
@@ -133,9 +137,9 @@ starts_under_s = codes "step " ∷ codes "status " ∷ []
 abbrev pub starts_under_t : List (List ℕ)
 starts_under_t = codes "tread " ∷ codes "twrite " ∷ []
 
--- the value of a byte as a lower-case hexadecimal digit, or 255
+-- the value of a byte as a lower-case hexadecimal digit, or more than 15
 abbrev pub value_of_digit : ℕ → ℕ
-value_of_digit byte = if nat_le 48 byte && nat_le byte 57 then byte - 48 else (if nat_le 97 byte && nat_le byte 102 then byte - 87 else 255)
+value_of_digit byte = min (((byte + 198) % 256 - 6 + 16) % 256) (255 - ((352 - byte) % 256 - 10))
 
 -- the digits say the bytes
 abbrev pub IsHexOf : List ℕ → List ℕ → Type 0

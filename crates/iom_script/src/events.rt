@@ -1,6 +1,6 @@
 ghost use Rattle.std.specs.Prelude.{◌≡◌, codes, IfOk};
 ghost use Rattle.iom_script.specs.Reading.{Reads};
-ghost use Rattle.iom_script.specs.Cuts.{IsLineWith, IsLineOf, single_starts, starts_under_a, starts_under_d, starts_under_f, starts_under_p, starts_under_q, starts_under_r, starts_under_s, starts_under_t};
+ghost use Rattle.iom_script.specs.Cuts.{IsLineWith, IsLineOf, single_starts, starts_of_requests, starts_under_a, starts_under_d, starts_under_f, starts_under_p, starts_under_q, starts_under_r, starts_under_s, starts_under_t};
 ghost use Rattle.iom_script.specs.Grammar.{IsEventLine};
 
 use crate::words::{
@@ -388,6 +388,16 @@ fn under_r(line: &[u8]) -> Option<Event>
         reset(line),
         revive(line)
     )
+}
+
+/// The read or the write for which a line says that a device asks. Only the bytes of a write take memory.
+pub fn request_of(alloc: Global, line: &[u8]) -> Result<Option<Event>, AllocError>
+    ensures { IfOk result (λ event. Reads event (IsLineOf starts_of_requests line.now)) }
+{
+    match read(line) {
+        Some(event) => Ok(Some(event)),
+        None => write(alloc, line),
+    }
 }
 
 /// A line under `p`.

@@ -7,15 +7,14 @@ ghost use Rattle.iom_script.specs.Cuts.{value_of_digit, IsHexOf};
 
 use std::simd::prelude::*;
 
-/// The value of each byte as a lower-case hexadecimal digit, or 255.
+/// The value of each byte as a lower-case hexadecimal digit, or more than 15.
 fn values_of<const N: usize>(text: Simd<u8, N>) -> Simd<u8, N>
     ensures { result ≡ map value_of_digit text.entry }
 {
-    let decimal = text - Simd::splat(b'0');
-    let letter = text - Simd::splat(b'a');
-    let is_letter = letter.simd_lt(Simd::splat(6));
-    let other = is_letter.select(letter + Simd::splat(10), Simd::splat(255));
-    decimal.simd_lt(Simd::splat(10)).select(decimal, other)
+    // What isn't such a digit saturates, and comes to 16 or more.
+    let decimal = (text - Simd::splat(b'9' + 1)).saturating_sub(Simd::splat(6)) + Simd::splat(16);
+    let letter = (Simd::splat(b'a' - 1) - text).saturating_sub(Simd::splat(10));
+    decimal.simd_min(Simd::splat(255) - letter)
 }
 
 /// Whether all of sixteen are below 16.
@@ -37,9 +36,9 @@ fn joined(values: u8x16) -> [u8; 8]
     requires { AllByRecursion (λ value. value < 16) values }
     ensures { IsHexOf (map hex_digit values) result }
 {
-    // The first of two values is in the lower byte of its lane.
+    // The first of two values is in the lower byte of its lane. Times 4,096 it comes, sixteenfold, to the second in the upper byte.
     let pairs = u16x8::from_le_bytes(values);
-    let bytes = pairs % u16x8::splat(256) * u16x8::splat(16) + pairs / u16x8::splat(256);
+    let bytes = pairs * u16x8::splat(4097) / u16x8::splat(256);
     bytes.cast::<u8>().to_array()
 }
 
@@ -49,7 +48,7 @@ fn all_joined(values: u8x32) -> [u8; 16]
     ensures { IsHexOf (map hex_digit values) result }
 {
     let pairs = u16x16::from_le_bytes(values);
-    let bytes = pairs % u16x16::splat(256) * u16x16::splat(16) + pairs / u16x16::splat(256);
+    let bytes = pairs * u16x16::splat(4097) / u16x16::splat(256);
     bytes.cast::<u8>().to_array()
 }
 

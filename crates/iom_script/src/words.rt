@@ -1,11 +1,13 @@
 //! The words of a line, each with what it says: for whoever reads lines of this language, or of one beside it.
-ghost use Rattle.std.specs.Prelude.{◌≡◌, ◌/◌, ◌%◌, ◌^◌, ◌*◌, ◌<◌, ◌≤◌, ◌++◌, ◌↔◌, length, IfOk, IsTrue, MatchOption, None};
+ghost use Rattle.std.specs.Prelude.{◌≡◌, ◌/◌, ◌%◌, ◌^◌, ◌*◌, ◌<◌, ◌≤◌, ◌++◌, ◌∷◌, ◌↔◌, [], All, length, take, IfOk, IsTrue, None};
+ghost use Rattle.std.specs.Bool.{MatchBool};
 ghost use Rattle.memchr.specs.Find.{IsFirstByte, is_byte};
-ghost use Rattle.iom_script.specs.Digits.{hex_digit, hex_digits};
+ghost use Rattle.iom_script.specs.Digits.{hex_digit, hex_digits, hex_of};
 ghost use Rattle.iom_script.specs.Words.{IsDevice, IsNumber, IsPage, IsAddress, IsRight, IsMode, IsAttaching, IsKind, IsHex};
 ghost use Rattle.iom_script.specs.Reading.{Reads};
 ghost use Rattle.iom_script.specs.Cuts.{shown, shown_rest, with_rest, IsCut, BeginsWithWord, LeadsWithHex, LeadsWithDecimal, LeadsWithNumber, SaysFirst};
 
+use crate::buffer::write_at;
 pub use crate::lanes::eight_bytes;
 use crate::lanes::sixteen_bytes;
 use iom_base::{DeviceId, GrantRights, Mode, NewDevice, Sequence, Size};
@@ -167,12 +169,26 @@ pub fn leading_number(text: &[u8]) -> Option<(u64, usize)>
     Some((number, count))
 }
 
+/// The number that a decimal digit says.
+fn one_digit(digit: u8) -> Option<u64>
+    ensures { Reads result (IsNumber (digit ∷ [])) }
+{
+    if digit.is_ascii_digit() {
+        Some(u64::from(digit - b'0'))
+    } else {
+        None
+    }
+}
+
 /// The number that the word says.
 // A call: written into the readers of all events, the loop would carry what their lines say.
 #[inline(never)]
 pub fn number_of(text: &[u8]) -> Option<u64>
     ensures { Reads result (IsNumber text.now) }
 {
+    if text.len() == 1 {
+        return one_digit(text[0]);
+    }
     let (number, count) = leading_number(text)?;
     if count != text.len() {
         return None;
@@ -276,18 +292,39 @@ pub fn byte_of(high: u8, low: u8) -> Option<u8>
     Some(high * 16 + low)
 }
 
-/// The bytes that whole groups of 32 digits say, with room for all of the text's.
-fn first_bytes(alloc: Global, text: &[u8]) -> Result<Option<Vec<u8>>, AllocError>
-    ensures { IfOk result (λ read. MatchOption read (Reads None (IsHex text.now)) (λ bytes. SaysFirst text.now (16 * (length text.now / 32)) bytes.items)) }
+/// Writes the bytes that whole groups of 32 digits say. False where they don't.
+// Written into its caller, as its loop is most of that.
+#[inline(always)]
+fn put_groups(places: &mut [u8], text: &[u8]) -> bool
+    requires { length text.now ≡ 2 * length places.old }
+    ensures len { length places.new ≡ length places.old }
+    ensures said { MatchBool result (SaysFirst text.now (16 * (length text.now / 32)) (take (16 * (length text.now / 32)) places.new)) (Reads None (IsHex text.now)) }
 {
-    let mut bytes = Vec::with_capacity(alloc, text.len() / 2)?;
     for group in 0..text.len() / 32 {
         match sixteen_bytes(&text[32 * group..32 * group + 32]) {
-            Some(sixteen) => bytes.extend_from_slice(&sixteen)?,
-            None => return Ok(None),
+            Some(sixteen) => write_at(places, 16 * group, &sixteen),
+            None => return false,
         }
     }
-    Ok(Some(bytes))
+    true
+}
+
+/// Writes the bytes that the digits say, two of them for each place. False where they don't.
+pub fn put_bytes(places: &mut [u8], text: &[u8]) -> bool
+    requires { length text.now ≡ 2 * length places.old }
+    ensures len { length places.new ≡ length places.old }
+    ensures said { MatchBool result (All (λ byte. byte < 256) places.new × (text.now ≡ hex_of places.new)) (Reads None (IsHex text.now)) }
+{
+    if !put_groups(places, text) {
+        return false;
+    }
+    for i in 16 * (text.len() / 32)..places.len() {
+        match byte_of(text[2 * i], text[2 * i + 1]) {
+            Some(byte) => write_at(places, i, &[byte]),
+            None => return false,
+        }
+    }
+    true
 }
 
 /// The bytes that the word says. They take memory once, as much as they need.
@@ -297,14 +334,9 @@ pub fn bytes_of(alloc: Global, text: &[u8]) -> Result<Option<Sequence<u8>>, Allo
     if text.len() < 2 || text.len() > 8192 || text.len() % 2 != 0 {
         return Ok(None);
     }
-    let Some(mut bytes) = first_bytes(alloc, text)? else {
+    let mut bytes = vec![in alloc; 0u8; text.len() / 2]?;
+    if !put_bytes(bytes.as_mut_slice(), text) {
         return Ok(None);
-    };
-    for i in bytes.len()..text.len() / 2 {
-        match byte_of(text[2 * i], text[2 * i + 1]) {
-            Some(byte) => bytes.push(byte)?,
-            None => return Ok(None),
-        }
     }
     Ok(Some(Sequence::from_vec(bytes)))
 }

@@ -1,7 +1,0 @@
-use Rattle.std.proofs.Common.{◌*◌}
-use Rattle.iom_script.specs.Cuts.{SaysFirst}
-use Rattle.iom_trace_lines.proofs.kept.put_groups.Given as goal
-
--- the groups so far say the bytes
-abbrev pub invariant-loop-group : goal.invariant-loop-group
-invariant-loop-group l = SaysFirst l.text (8 * l.group) l.list.items
