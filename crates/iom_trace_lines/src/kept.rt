@@ -1,9 +1,8 @@
 // Outcomes that lines tell.
-ghost use Rattle.std.specs.Prelude.{◌≡◌, ◌*◌, ◌/◌, ◌++◌, ◌∷◌, [], All, codes, flat_map, length, IfOk, IfSome, IsTrue};
+ghost use Rattle.std.specs.Prelude.{◌≡◌, ◌++◌, ◌∷◌, [], All, codes, flat_map, length, IfOk, IfSome, IsTrue};
 ghost use Rattle.std.specs.Fmt.{decimal};
 ghost use Rattle.iom_base.specs.Causes.{code_of};
 ghost use Rattle.iom_script.specs.Digits.{hex_of};
-ghost use Rattle.iom_script.specs.Cuts.{SaysFirst};
 ghost use Rattle.iom_trace_lines.specs.Places.{AreOfKind, BeginsSo};
 ghost use Rattle.iom_script.specs.Lines.{fetched_text, line_of, timeout_text, word_text};
 
@@ -13,7 +12,7 @@ use iom_base::{Cause, Refusal};
 use iom_fabric::Translation;
 use iom_machine::{BlockStep, CommandName, Event, FaultRecord, Fetched, Outcome};
 use iom_script::LineBuffer;
-use iom_script::words::{after, byte_of, cut, eight_bytes, is_word, number_of, right_of};
+use iom_script::words::{after, cut, eight_bytes, is_word, number_of, put_bytes, right_of};
 use iom_virtqueue::ChainFault;
 use std::alloc::{AllocError, Global};
 
@@ -174,38 +173,36 @@ fn fetched_of(event: &Event, text: &[u8]) -> Option<Fetched>
     }
 }
 
-/// Puts the bytes into the list that whole groups of sixteen digits say. None where they don't.
-fn put_groups(list: &mut ArrayVec<u8, 4096>, text: &[u8]) -> Option<()>
-    requires { list.old.items ≡ [] }
-    ensures { IfSome result (λ done. SaysFirst text.now (8 * (length text.now / 16)) list.new.items) }
+/// As many bytes as a read may give.
+static ZEROS: [u8; 4096] = [0; 4096];
+
+/// The list has so many places, whatever stands there. None where that is more than it has room for.
+fn resize(list: &mut ArrayVec<u8, 4096>, len: usize) -> Option<()>
+    ensures { IfSome result (λ done. length list.new.items ≡ len) }
 {
-    for group in 0..text.len() / 16 {
-        let eight = eight_bytes(&text[16 * group..16 * group + 16])?;
-        match list.try_extend_from_slice(&eight) {
-            Ok(()) => {}
-            Err(_) => return None,
-        }
+    if list.len() == len {
+        return Some(());
     }
-    Some(())
+    list.clear();
+    match list.try_extend_from_slice(ZEROS.get(..len)?) {
+        Ok(()) => Some(()),
+        Err(_) => None,
+    }
 }
 
 /// Puts the bytes into the list that two hexadecimal digits each say. None where they don't.
-fn put_bytes(list: &mut ArrayVec<u8, 4096>, text: &[u8]) -> Option<()>
+fn tell_bytes(list: &mut ArrayVec<u8, 4096>, text: &[u8]) -> Option<()>
     ensures { IfSome result (λ done. text.now ≡ hex_of list.new.items) }
 {
-    list.clear();
     if text.len() % 2 != 0 {
         return None;
     }
-    put_groups(list, text)?;
-    for index in 8 * (text.len() / 16)..text.len() / 2 {
-        let byte = byte_of(text[2 * index], text[2 * index + 1])?;
-        match list.try_push(byte) {
-            Ok(()) => {}
-            Err(_) => return None,
-        }
+    resize(list, text.len() / 2)?;
+    if put_bytes(list.as_mut_slice(), text) {
+        Some(())
+    } else {
+        None
     }
-    Some(())
 }
 
 /// Whether ` timeout` stands behind what a poll found.
@@ -390,9 +387,9 @@ impl KeptOutcomes {
     {
         if let [b'b' | b'r' | b'w', ..] = text {
             tell_behind!(text, rest,
-                b"read " => tell!(self.read, Outcome::Read(bytes) => put_bytes(bytes, rest)?),
+                b"read " => tell!(self.read, Outcome::Read(bytes) => tell_bytes(bytes, rest)?),
                 b"wrote " => tell!(self.wrote, Outcome::Wrote(len) => *len = long_number_of(rest)?),
-                b"bytes " => tell!(self.bytes, Outcome::Bytes(bytes) => put_bytes(bytes, rest)?),
+                b"bytes " => tell!(self.bytes, Outcome::Bytes(bytes) => tell_bytes(bytes, rest)?),
                 b"record" => tell!(self.record, Outcome::Record(taken) => *taken = record_of(rest)?),
             );
         }

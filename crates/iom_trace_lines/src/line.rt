@@ -14,7 +14,7 @@ use crate::trace::TraceLine;
 use crate::words::{behind, cut, long_number_of, number_before, read_frames};
 use iom_base::{Access, AccessKind, DeviceId, Sequence};
 use iom_machine::{Event, Outcome};
-use iom_script::{event_of, is_spoken};
+use iom_script::{event_of, is_spoken, request_of};
 use memchr::{memchr, memrchr};
 use std::alloc::{AllocError, Global};
 use std::simd::prelude::*;
@@ -89,7 +89,7 @@ fn read_began<'a>(
     let (Event::Step { device }, Some((asked, on))) = (&event, cut_on(text)) else {
         return Ok(TraceLine::Bad);
     };
-    let Some(asks) = event_of(alloc, asked)? else {
+    let Some(asks) = request_of(alloc, asked)? else {
         return Ok(TraceLine::Bad);
     };
     match access_of(alloc, asks) {

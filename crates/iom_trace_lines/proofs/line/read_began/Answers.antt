@@ -16,7 +16,7 @@ returns-in-Some-access_of c shown tables begins accepted said answered answer sa
       accepted,
       c.in-Step-Some.asked.now,
       asks,
-      (c.in_ok-asks.ensures asks).0 c.in-Some.is,
+      ((c.in_ok-asks.ensures asks).0 c.in-Some.is).1,
       subst (λ (device : ℕ). EventAsksFor asks device access) c.if-id-device.true c.in-Some-access_of.ensures,
       c.in-Step-Some.ensures,
     ))
