@@ -4,7 +4,7 @@ use crate::timeline::{CopyKind, Place};
 use std::alloc::{AllocError, Global};
 
 /// The copies of a lane that haven't ended, by their places in the list of all.
-#[derive(Clone, Copy, PartialEq, Eq, Debug)]
+#[derive(Clone, Copy)]
 struct Open {
     cached: Option<usize>,
     kept: Option<usize>,
@@ -77,6 +77,13 @@ impl Copies {
         }
     }
 
+    /// The same, of all these lanes.
+    pub(crate) fn spoil_all_kept(&mut self, lanes: &[usize], line: u64) {
+        for lane in lanes {
+            self.spoil_kept(*lane, line);
+        }
+    }
+
     /// The IOMMU may remember the lane's page from here on, where it didn't. Whether that is new.
     pub(crate) fn cache(&mut self, lane: usize, line: u64) -> Result<bool, AllocError> {
         let place = self.all.len();
@@ -102,6 +109,13 @@ impl Copies {
         self.end(copy, line);
     }
 
+    /// The same, of all these lanes.
+    pub(crate) fn forget_all(&mut self, lanes: &[usize], line: u64) {
+        for lane in lanes {
+            self.forget(*lane, line);
+        }
+    }
+
     /// The device's own cache has the lane's page from here on, where it hadn't.
     pub(crate) fn keep(&mut self, lane: usize, line: u64) -> Result<(), AllocError> {
         let place = self.all.len();
@@ -125,5 +139,12 @@ impl Copies {
             return;
         };
         self.end(copy, line);
+    }
+
+    /// The same, of all these lanes.
+    pub(crate) fn drop_all_kept(&mut self, lanes: &[usize], line: u64) {
+        for lane in lanes {
+            self.drop_kept(*lane, line);
+        }
     }
 }

@@ -8,7 +8,7 @@ use std::alloc::{AllocError, Global};
 const MAX_KEPT: usize = 32;
 
 /// How the driver stands to a device.
-#[derive(Clone, Copy, PartialEq, Eq, Debug)]
+#[derive(Clone, Copy, PartialEq, Eq)]
 pub(crate) enum Standing {
     Detached,
     Attached,
@@ -18,7 +18,7 @@ pub(crate) enum Standing {
 }
 
 /// An access that was accepted, and isn't made.
-#[derive(Clone, Copy, PartialEq, Eq, Debug)]
+#[derive(Clone, Copy)]
 pub(crate) struct Flight {
     pub(crate) lane: Option<usize>,
     pub(crate) copy: usize,

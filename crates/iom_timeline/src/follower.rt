@@ -17,7 +17,7 @@ pub struct Shown<'a> {
 }
 
 /// What waits for a ticket.
-#[derive(Clone, Copy, PartialEq, Eq, Debug)]
+#[derive(Clone, Copy)]
 pub(crate) enum Waiting {
     /// The stay at this place lingers.
     Stay(usize),
@@ -25,7 +25,7 @@ pub(crate) enum Waiting {
     Leaving(DeviceId),
 }
 
-#[derive(Clone, Copy, PartialEq, Eq, Debug)]
+#[derive(Clone, Copy)]
 pub(crate) struct Pending {
     pub(crate) ticket: u32,
     pub(crate) waiting: Waiting,

@@ -10,12 +10,56 @@ use iom_base::{DeviceId, GrantRights, Mode};
 use iom_machine::CommandName;
 use std::alloc::AllocError;
 
-/// What a release of the page makes the IOMMU forget: all pages, where a guest's own tables may lead any of them there.
-fn scope_of(device: &Device, page: u64) -> Scope {
-    if device.is_guest() {
-        Scope::Everything
-    } else {
-        Scope::Page(page)
+/// Those of the stays at these places that are held are released at this line, and wait for the ticket.
+fn release_held(
+    stays: &mut [Stay],
+    pending: &mut Vec<Pending>,
+    places: &[usize],
+    line: u64,
+    ticket: u32,
+) -> Result<(), AllocError> {
+    for place in places {
+        let Some(stay) = stays.get_mut(*place) else {
+            continue;
+        };
+        if stay.is_held() {
+            stay.release(line, ticket);
+            pending.push(Pending {
+                ticket,
+                waiting: Waiting::Stay(*place),
+            })?;
+        }
+    }
+    Ok(())
+}
+
+/// A time of the device at each of its pages that lingers, and at its others.
+fn add_quarantines(
+    quarantines: &mut Vec<Quarantine>,
+    stays: &[Stay],
+    device: &Device,
+    period: Period,
+) -> Result<(), AllocError> {
+    for place in device.pages.values() {
+        let Some(stay) = stays.get(*place) else {
+            continue;
+        };
+        if stay.confirmed == NEVER {
+            let place = Place::Lane(stay.lane);
+            quarantines.push(Quarantine { place, period })?;
+        }
+    }
+    let place = Place::Device(device.id);
+    quarantines.push(Quarantine { place, period })?;
+    Ok(())
+}
+
+/// The times at these places end at this line.
+fn end_between(quarantines: &mut [Quarantine], from: usize, until: usize, line: u64) {
+    for place in from..until {
+        if let Some(quarantine) = quarantines.get_mut(place) {
+            quarantine.period = quarantine.period.ended(line);
+        }
     }
 }
 
@@ -132,7 +176,7 @@ impl Follower {
         Ok(())
     }
 
-    /// A page is released: IOTINVAL, where the device may have it too ATS.INVAL, and IOFENCE.C are queued.
+    /// A page is released.
     pub(crate) fn release(
         &mut self,
         id: DeviceId,
@@ -142,17 +186,7 @@ impl Follower {
         let Some(device) = self.devices.get(id) else {
             return Ok(());
         };
-        let scope = scope_of(device, page);
-        self.commands.push(Command::Invalidate {
-            name: device.invalidation(),
-            device: id,
-            scope,
-        })?;
-        if device.has_ats {
-            self.commands
-                .push(Command::AskDevice { device: id, scope })?;
-        }
-        self.commands.push(Command::Fence)?;
+        self.commands.push_release(device, page)?;
         let Some(place) = device.pages.get(&page).copied() else {
             return Ok(());
         };
@@ -162,23 +196,16 @@ impl Follower {
         self.wait(ticket, Waiting::Stay(place))
     }
 
-    /// The device's context and all its pages are to be forgotten.
+    /// The device's context and all its pages are to be forgotten, and a fence comes behind.
     fn queue_farewell(&mut self, id: DeviceId) -> Result<(), AllocError> {
-        let Some(device) = self.devices.get(id) else {
-            return Ok(());
-        };
-        self.commands
-            .push(Command::InvalidateContext { device: id })?;
-        self.commands.push(Command::Invalidate {
-            name: device.invalidation(),
-            device: id,
-            scope: Scope::Everything,
-        })
+        if let Some(device) = self.devices.get(id) {
+            self.commands.push_farewell(device)?;
+        }
+        self.commands.push_fence()
     }
 
     pub(crate) fn detach(&mut self, id: DeviceId, ticket: u32) -> Result<(), AllocError> {
         self.queue_farewell(id)?;
-        self.commands.push(Command::Fence)?;
         self.reset(id);
         self.end_quarantines(id);
         if let Some(device) = self.devices.get_mut(id) {
@@ -189,25 +216,26 @@ impl Follower {
 
     pub(crate) fn quarantine(&mut self, id: DeviceId, ticket: u32) -> Result<(), AllocError> {
         self.queue_farewell(id)?;
-        self.commands.push(Command::Fence)?;
+        self.release_all(id, ticket)?;
+        self.begin_quarantine(id)
+    }
+
+    /// All pages of the device are released under the ticket, and it is quarantined.
+    fn release_all(&mut self, id: DeviceId, ticket: u32) -> Result<(), AllocError> {
+        let line = self.line;
         let Some(device) = self.devices.get_mut(id) else {
             return Ok(());
         };
         device.standing = Standing::Quarantined;
-        for place in &device.granted {
-            let Some(stay) = self.timeline.stays.get_mut(*place) else {
-                continue;
-            };
-            if stay.is_held() {
-                stay.release(self.line, ticket);
-                self.pending.push(Pending {
-                    ticket,
-                    waiting: Waiting::Stay(*place),
-                })?;
-            }
-        }
+        release_held(
+            &mut self.timeline.stays,
+            &mut self.pending,
+            &device.granted,
+            line,
+            ticket,
+        )?;
         device.granted.clear();
-        self.begin_quarantine(id)
+        Ok(())
     }
 
     /// The device is quarantined from this line on, at each of its pages that lingers.
@@ -217,21 +245,12 @@ impl Follower {
         let Some(device) = self.devices.get_mut(id) else {
             return Ok(());
         };
-        for place in device.pages.values() {
-            let Some(stay) = self.timeline.stays.get(*place) else {
-                continue;
-            };
-            if stay.confirmed == NEVER {
-                let place = Place::Lane(stay.lane);
-                self.timeline
-                    .quarantines
-                    .push(Quarantine { place, period })?;
-            }
-        }
-        let place = Place::Device(id);
-        self.timeline
-            .quarantines
-            .push(Quarantine { place, period })?;
+        add_quarantines(
+            &mut self.timeline.quarantines,
+            &self.timeline.stays,
+            device,
+            period,
+        )?;
         device.first_quarantine = first;
         device.quarantines_end = self.timeline.quarantines.len();
         Ok(())
@@ -244,11 +263,12 @@ impl Follower {
             return;
         };
         device.is_barred = false;
-        for place in device.first_quarantine..device.quarantines_end {
-            if let Some(quarantine) = self.timeline.quarantines.get_mut(place) {
-                quarantine.period = quarantine.period.ended(line);
-            }
-        }
+        end_between(
+            &mut self.timeline.quarantines,
+            device.first_quarantine,
+            device.quarantines_end,
+            line,
+        );
         device.first_quarantine = 0;
         device.quarantines_end = 0;
     }
@@ -263,9 +283,7 @@ impl Follower {
             return;
         }
         device.is_barred = true;
-        for lane in &device.kept {
-            self.copies.spoil_kept(*lane, line);
-        }
+        self.copies.spoil_all_kept(&device.kept, line);
         self.messages.spoil(id, &mut self.copies, line);
     }
 
@@ -279,28 +297,9 @@ impl Follower {
 
     /// The queue is emptied, and what is still needed is queued anew.
     pub(crate) fn restart(&mut self) -> Result<(), AllocError> {
-        self.commands.clear();
         self.open_requests = 0;
         self.end_wait();
-        for device in self.devices.all.values() {
-            if device.standing == Standing::Detached {
-                continue;
-            }
-            self.commands
-                .push(Command::InvalidateContext { device: device.id })?;
-            self.commands.push(Command::Invalidate {
-                name: device.invalidation(),
-                device: device.id,
-                scope: Scope::Everything,
-            })?;
-            if device.has_ats && device.standing == Standing::Attached {
-                self.commands.push(Command::AskDevice {
-                    device: device.id,
-                    scope: Scope::Everything,
-                })?;
-            }
-        }
-        self.commands.push(Command::Fence)?;
+        self.commands.restart(&self.devices)?;
         self.mark(Place::Driver, MarkKind::Restarted)
     }
 
@@ -351,9 +350,7 @@ impl Follower {
                 let Some(device) = self.devices.get_mut(id) else {
                     return;
                 };
-                for lane in &device.cached {
-                    self.copies.forget(*lane, line);
-                }
+                self.copies.forget_all(&device.cached, line);
                 device.cached.clear();
             }
         }

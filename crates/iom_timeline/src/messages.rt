@@ -6,7 +6,7 @@ use iom_fabric::MAX_MESSAGES;
 use std::alloc::{AllocError, Global};
 
 /// A message, as far as the trace shows it.
-#[derive(Clone, Copy, PartialEq, Eq, Debug)]
+#[derive(Clone, Copy)]
 pub(crate) enum Message {
     /// A device asks for a page. A block device doesn't say which.
     Question {

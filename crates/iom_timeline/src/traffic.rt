@@ -38,9 +38,7 @@ impl Follower {
     pub(crate) fn reset(&mut self, id: DeviceId) {
         let line = self.line;
         if let Some(device) = self.devices.get_mut(id) {
-            for lane in &device.kept {
-                self.copies.drop_kept(*lane, line);
-            }
+            self.copies.drop_all_kept(&device.kept, line);
             device.kept.clear();
         }
         self.messages.spoil(id, &mut self.copies, line);
