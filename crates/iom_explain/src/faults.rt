@@ -82,6 +82,10 @@ impl fmt::Display for Untranslated {
                 f,
                 "the device's stages translate no such address"
             ),
+            WhyFault::NoGuestRoot { .. } => write!(
+                f,
+                "the device's second stage doesn't translate the root of its first"
+            ),
             WhyFault::StopsAt { load, flaw, .. } => {
                 let (entry, wrong) = (Loaded(load), wrong_in_table(flaw));
                 write!(f, "{entry} {wrong}")

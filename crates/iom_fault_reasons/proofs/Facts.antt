@@ -104,7 +104,9 @@ pub end_fault : (memory : List (List ℕ)) (stages : Stages) (source : ContextSo
 end_fault memory stages source address kind (tables.Reaches walked) fault ends stops =
     absurd (let e : ◌≡◌ {A = TableAnswer} (Ok walked) (Err fault) = sym ends ∙ stops in cc)
 end_fault memory stages source address kind (tables.StopsUnread fault') fault ends stops =
-    let e : ◌≡◌ {A = TableAnswer} (Err fault') (Err fault) = sym (ap (made_from memory) ends) ∙ stops in cc
+    let e : ◌≡◌ {A = TableAnswer} (Err fault') (Err fault) = sym (ap (made_from memory) (ends.0)) ∙ stops in cc
+end_fault memory stages source address kind (tables.LacksGuestRoot fault') fault ends stops =
+    let e : ◌≡◌ {A = TableAnswer} (Err fault') (Err fault) = sym (ap (made_from memory) (ends.0)) ∙ stops in cc
 end_fault memory stages source address kind (tables.StopsAt load flaw fault') fault ends stops =
     let e : ◌≡◌ {A = TableAnswer} (Err fault') (Err fault) = sym ends.made ∙ stops in cc
 

@@ -22,7 +22,7 @@ use Rattle.iom_walk_stops.specs.declared.tables.TablesEnd.TheVariants as tables
 use Rattle.iom_fault_reasons.specs.declared.found.ContextSource.{ContextSource}
 use Rattle.iom_fault_reasons.specs.declared.found.ContextSource.TheVariants.{Cache, Directory}
 use Rattle.iom_fault_reasons.specs.declared.found.WhyFault.{WhyFault}
-use Rattle.iom_fault_reasons.specs.declared.found.WhyFault.TheVariants.{DirectoryOff, IdTooWide, NoContext, OutsideMemory, NoSuchAddress, StopsAt, Untranslated, Reaches}
+use Rattle.iom_fault_reasons.specs.declared.found.WhyFault.TheVariants.{DirectoryOff, IdTooWide, NoContext, OutsideMemory, NoSuchAddress, NoGuestRoot, StopsAt, Untranslated, Reaches}
 
 -- where no stage translates the address, it is that of memory
 abbrev pub own_reason : List (List ℕ) → ℕ → WhyFault
@@ -32,6 +32,7 @@ own_reason memory address = if nat_lt (address / page_size) (length memory) then
 abbrev pub reason_by : ContextSource → TablesEnd → WhyFault
 reason_by source (tables.Reaches walked) = Reaches source walked.frame
 reason_by source (tables.StopsUnread fault) = NoSuchAddress source fault
+reason_by source (tables.LacksGuestRoot fault) = NoGuestRoot source fault
 reason_by source (tables.StopsAt load flaw fault) = StopsAt source load flaw fault
 
 -- their walk ends somewhere, in memory as it is, and that is the reason
@@ -93,6 +94,7 @@ fault_by kind IdTooWide = Some (plain TransactionTypeDisallowed)
 fault_by kind (NoContext load cause) = Some (plain cause)
 fault_by kind OutsideMemory = Some (plain (access_fault_of kind))
 fault_by kind (NoSuchAddress source fault) = Some fault
+fault_by kind (NoGuestRoot source fault) = Some fault
 fault_by kind (StopsAt source load flaw fault) = Some fault
 fault_by kind (Untranslated frame) = None
 fault_by kind (Reaches source frame) = None

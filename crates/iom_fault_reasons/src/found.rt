@@ -37,6 +37,11 @@ pub enum WhyFault {
         source: ContextSource,
         fault: WalkFault,
     },
+    /// The root of the first stage's tables isn't one that the second stage translates.
+    NoGuestRoot {
+        source: ContextSource,
+        fault: WalkFault,
+    },
     /// The walk of the context's stages stops at this entry, in which that is wrong.
     StopsAt {
         source: ContextSource,
@@ -82,6 +87,7 @@ fn by_stages(
             frame: walked.frame,
         },
         TablesEnd::StopsUnread(fault) => WhyFault::NoSuchAddress { source, fault },
+        TablesEnd::LacksGuestRoot(fault) => WhyFault::NoGuestRoot { source, fault },
         TablesEnd::StopsAt { load, flaw, fault } => WhyFault::StopsAt {
             source,
             load,

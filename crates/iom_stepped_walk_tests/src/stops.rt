@@ -241,6 +241,33 @@ fn both_stages_stop_in_the_second_or_in_a_guests_table(rt: HostRuntime) {
 }
 
 #[test]
+fn a_guests_root_lies_beyond_the_second_stage(rt: HostRuntime) {
+    let memory = with_words(&rt, rt.alloc(), &GUEST);
+    // Sv39x4 translates addresses of 41 bits, and this page begins at 2^41
+    let stages = Stages::Both {
+        first_size: Size::Sv39,
+        first: page(&rt, 1 << 29),
+        second_size: Size::Sv39,
+        second: page(&rt, 8),
+    };
+    let end = end_of_tables(&memory, stages, 0, AccessKind::Write);
+    let fault = WalkFault {
+        cause: Cause::WriteGuestPageFault,
+        gpa: 1 << 41,
+        implicit: true,
+    };
+    expect(&rt, end == TablesEnd::LacksGuestRoot(fault));
+    // of an address that isn't canonical that isn't asked
+    let end = end_of_tables(&memory, stages, 1 << 38, AccessKind::Write);
+    let fault = WalkFault {
+        cause: Cause::WritePageFault,
+        gpa: 0,
+        implicit: false,
+    };
+    expect(&rt, end == TablesEnd::StopsUnread(fault));
+}
+
+#[test]
 fn a_second_stage_stops_in_its_wide_root(rt: HostRuntime) {
     let memory = with_words(&rt, rt.alloc(), &[]);
     let stages = Stages::Second {

@@ -1,5 +1,5 @@
 -- Where a walk ends, all its loads made from one memory.
-use Rattle.std.specs.Prelude.{◌≡◌, ℕ, List, length, Some, Result, Ok, Err}
+use Rattle.std.specs.Prelude.{◌≡◌, ℕ, true, false, List, length, Some, Result, Ok, Err}
 use Rattle.iom_base.specs.Tables.{entry_size}
 use Rattle.iom_base.specs.declared.cause.Cause.{Cause}
 use Rattle.iom_device_dir.specs.declared.context.Context.{Context}
@@ -20,7 +20,7 @@ use Rattle.iom_walk_stops.specs.Loads.{last_load, ComesTo}
 use Rattle.iom_walk_stops.specs.declared.directory.DirectoryEnd.{DirectoryEnd}
 use Rattle.iom_walk_stops.specs.declared.directory.DirectoryEnd.TheVariants as directory
 use Rattle.iom_walk_stops.specs.declared.tables.TablesEnd.{TablesEnd}
-use Rattle.iom_walk_stops.specs.declared.tables.TablesEnd.TheVariants.{Reaches, StopsAt, StopsUnread}
+use Rattle.iom_walk_stops.specs.declared.tables.TablesEnd.TheVariants.{Reaches, StopsAt, StopsUnread, LacksGuestRoot}
 
 -- A WALK OF TABLES STOPS AT AN ENTRY: its last load is of it, and ends the walk with the fault. Before that load it stands somewhere, which says of which table
 -- the entry is, and what is wrong with it
@@ -33,10 +33,12 @@ pub record StopsAtEntry (memory : List (List ℕ)) (whole : Walk TableAnswer) (l
   pub ends : after_load memory (rest_of (length memory) walk) ≡ Ends (Err fault)
   pub wrong : flaw ≡ flaw_of (asks_of walk) (level_of walk) (entry_read (word_at entry_size memory load.address))
 
--- WHERE A WALK OF TABLES ENDS: it reaches a page; or an address that isn't lawful stops it before its first load; or an entry stops it
+-- WHERE A WALK OF TABLES ENDS: it reaches a page; or it stops before its first load, by an address that isn't lawful, or in the walk's own access to the root of a
+-- guest's tables, which the second stage doesn't translate; or an entry stops it
 abbrev pub EndOfTables : List (List ℕ) → Walk TableAnswer → TablesEnd → Type 0
 EndOfTables memory whole (Reaches walked) = made_from memory whole ≡ Ok walked
-EndOfTables memory whole (StopsUnread fault) = whole ≡ Ends (Err fault)
+EndOfTables memory whole (StopsUnread fault) = (whole ≡ Ends (Err fault)) × (fault.implicit ≡ false)
+EndOfTables memory whole (LacksGuestRoot fault) = (whole ≡ Ends (Err fault)) × (fault.implicit ≡ true)
 EndOfTables memory whole (StopsAt load flaw fault) = StopsAtEntry memory whole load flaw fault
 
 -- A WALK OF THE DIRECTORY STOPS AT AN ENTRY, or at a context, in the same way

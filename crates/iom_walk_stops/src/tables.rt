@@ -21,6 +21,8 @@ pub enum TablesEnd {
     Reaches(Walked),
     /// It stops before its first load: the address isn't one that the stage translates.
     StopsUnread(WalkFault),
+    /// It stops before its first load: the root of a guest's tables lies beyond what the second stage translates.
+    LacksGuestRoot(WalkFault),
     /// It stops with its last load, of this entry, in which that is wrong.
     StopsAt {
         load: EntryLoad,
@@ -71,6 +73,7 @@ pub fn end_of_tables<B: Bytes>(
     match stages.begin(address, kind) {
         Progress::GoesOn(walk) => end_from(walk, memory),
         Progress::Ended(Ok(walked)) => TablesEnd::Reaches(walked),
+        Progress::Ended(Err(fault)) if fault.implicit => TablesEnd::LacksGuestRoot(fault),
         Progress::Ended(Err(fault)) => TablesEnd::StopsUnread(fault),
     }
 }
