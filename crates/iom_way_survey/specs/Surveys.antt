@@ -1,5 +1,5 @@
 -- What a survey says of a scene.
-use Rattle.std.specs.Prelude.{◌≡◌, ◌⊎◌, ℕ, ◌==◌, Bool, true, false, List, [], length, slice_get, Contains, Option, None, Some}
+use Rattle.std.specs.Prelude.{◌≡◌, ◌⊎◌, ◌<◌, ℕ, ◌==◌, Bool, true, false, List, [], length, slice_get, Contains, Option, None, Some}
 use Rattle.std.specs.List.{find, list_any}
 use Rattle.iom_base.specs.declared.access.AccessKind.{AccessKind}
 use Rattle.iom_device.specs.declared.device.Device.{Device}
@@ -103,3 +103,22 @@ WritesCommon survey (Some id) frame =
 
 abbrev pub IsConflict : Survey → Conflict → Type 0
 IsConflict survey conflict = WritesCommon survey conflict.device conflict.frame
+
+-- the device with this row isn't trusted, and writes the frame, which hardware reads
+abbrev pub RowWrites : Survey → DeviceReach → ℕ → Type 0
+RowWrites survey row frame = (row.is_trusted ≡ false) × StandInBoth survey.read row.reach.writable frame
+
+-- no device with a row before this place does
+abbrev pub NoneWritesBefore : Survey → ℕ → Type 0
+NoneWritesBefore survey place = (k : ℕ) (row : DeviceReach) (frame : ℕ) → k < place → slice_get survey.devices.items k ≡ Some row → ¬ RowWrites survey row frame
+
+-- THE FIRST CONFLICT: by the order of the devices, behind which the IOMMU comes, and of each by the lowest frame
+abbrev pub ComesFirst : Survey → Option ℕ → ℕ → Type 0
+ComesFirst survey None frame =
+    NoneWritesBefore survey (length survey.devices.items) × ((lower : ℕ) → lower < frame → ¬ StandInBoth survey.read survey.stored lower)
+ComesFirst survey (Some id) frame =
+    (place : ℕ) × (row : DeviceReach) × (slice_get survey.devices.items place ≡ Some row) × (row.id ≡ id) × RowWrites survey row frame
+    × NoneWritesBefore survey place × ((lower : ℕ) → lower < frame → ¬ RowWrites survey row lower)
+
+abbrev pub IsFirstConflict : Survey → Conflict → Type 0
+IsFirstConflict survey conflict = ComesFirst survey conflict.device conflict.frame

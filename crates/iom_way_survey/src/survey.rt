@@ -6,7 +6,7 @@ ghost use Rattle.iom_reach.specs.Safe.{IsSafe};
 ghost use Rattle.iom_reach.specs.Scene.{HardwareScene};
 ghost use Rattle.iom_table_survey.specs.Rows.{row_has, GrowsBy, StandInBoth};
 ghost use Rattle.iom_way_survey.specs.Found.{TablesOfDevice, SomeTable};
-ghost use Rattle.iom_way_survey.specs.Surveys.{is_id_among, IsReachRow, reaches_in_rows, Surveys, IsSurveyOf, IsClash, AreRowsOf, IsConflictFree, IsConflict};
+ghost use Rattle.iom_way_survey.specs.Surveys.{is_id_among, IsReachRow, reaches_in_rows, Surveys, IsSurveyOf, IsClash, AreRowsOf, IsConflictFree, IsConflict, IsFirstConflict};
 ghost use Rattle.iom_way_survey.specs.declared.findings.Conflict.{Conflict};
 ghost use Rattle.iom_way_survey.specs.declared.findings.DeviceReach.{DeviceReach};
 
@@ -88,6 +88,7 @@ fn row_of(rows: &[DeviceReach], id: DeviceId) -> Option<&DeviceReach>
 /// The first frame that is read, and that the device may write, unless it is trusted.
 fn first_written(read: &FrameRow, row: &DeviceReach) -> Option<u64>
     ensures some { IfSome result (λ f. (row.now.is_trusted ≡ false) × StandInBoth read.now row.now.reach.writable f) }
+    ensures first { IfSome result (λ f. (g : ℕ) → g < f → ¬ StandInBoth read.now row.now.reach.writable g) }
     ensures none { IfNone result (row.now.is_trusted ≡ false → (f : ℕ) → ¬ StandInBoth read.now row.now.reach.writable f) }
 {
     if row.is_trusted {
@@ -121,9 +122,11 @@ impl Survey {
         self.stored.contains(frame)
     }
 
-    /// The first conflict, by the order of the devices; None exactly where what hardware reads is out of reach.
+    /// The first conflict, by the order of the devices, behind which the IOMMU comes, and of each by the lowest frame; None
+    /// exactly where what hardware reads is out of reach.
     pub fn first_conflict(&self) -> Option<Conflict>
         ensures some { IfSome result (IsConflict self.now) }
+        ensures first { IfSome result (IsFirstConflict self.now) }
         ensures none { IfNone result (IsConflictFree self.now) }
     {
         for place in 0..self.devices.len() {
