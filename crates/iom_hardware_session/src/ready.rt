@@ -43,11 +43,12 @@ impl Session {
         if !fits_directory(pointer.mode, device) {
             return None;
         }
-        match self.hardware.board.iommu.cached_context(device) {
-            Some(context) => Some(context),
-            None => match pointer.mode {
-                DirectoryMode::Off | DirectoryMode::Bare => None,
-                _ => locate(&self.hardware.board.memory, pointer, device).ok(),
+        match pointer.mode {
+            // No request is served by a context, whatever is cached.
+            DirectoryMode::Off | DirectoryMode::Bare => None,
+            _ => match self.hardware.board.iommu.cached_context(device) {
+                Some(context) => Some(context),
+                None => locate(&self.hardware.board.memory, pointer, device).ok(),
             },
         }
     }
