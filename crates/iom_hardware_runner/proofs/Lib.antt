@@ -1,3 +1,4 @@
 pub mod RunLemmas
 pub mod TextLemmas
+pub mod BadLineLemmas
 pub mod ReadLemmas

@@ -1,9 +1,9 @@
 -- Texts that were taken, and bytes that arrived.
-use Rattle.std.proofs.Common.{◌≡◌, ◌∙◌, ℕ, Result, Ok, Err, IfOk, OnOk, Bool, true, false, List, [], ◌∷◌, ◌++◌, filter, length, arith, Option, None, Some, MatchOption, refl, sym, ap, subst}
-use Rattle.std.proofs.lemmas.List.{append_assoc, append-nil}
+use Rattle.std.proofs.Common.{◌≡◌, ◌∙◌, ℕ, ◌+◌, ◌≤◌, Result, Ok, Err, IfOk, OnOk, Bool, true, false, List, [], ◌∷◌, ◌++◌, filter, length, arith, Option, None, Some, MatchOption, refl, sym, ap, subst}
+use Rattle.std.proofs.lemmas.List.{append_assoc, append-nil, length-append, length_push}
 use Rattle.std.proofs.lemmas.List.Concat.{flat_map-append}
 use Rattle.std.proofs.lemmas.List.Elements.{All-push, filter-append}
-use Rattle.iom_hardware_runner.specs.Parts.{CameBy, MachineTakesLine, TookTexts, HasTakenBytes}
+use Rattle.iom_hardware_runner.specs.Parts.{CameBy, MachineTakesLine, TookTexts, IsRefused, HasTakenBytes}
 use Rattle.iom_hardware_runner.specs.Runs.{HasRun, TextsRun, ScriptRuns}
 use Rattle.iom_hardware_runner.specs.declared.faults.RunFault.{RunFault}
 use Rattle.iom_hardware_runner.specs.declared.machine.Machine.{Machine}
@@ -68,19 +68,22 @@ without_both [] rest none others = others
 without_both (first ∷ front) rest (none, later) others = (none, without_both front rest later others)
 
 -- a piece grows
-pub piece_grows : (bytes piece part : List ℕ) (machine : Option Machine) → IsWithout 10 part → HasTakenBytes bytes piece machine → HasTakenBytes (bytes ++ part) (piece ++ part) machine
-piece_grows bytes piece part machine none (texts, whole, free, is, took) =
-    (texts, whole, without_both piece part free none, ap (λ (l : List ℕ). l ++ part) is ∙ append_assoc (bytes_of_lines texts) piece part, took)
+pub piece_grows : (most : ℕ) (bytes piece part : List ℕ) (count : ℕ) (machine : Option Machine) → IsWithout 10 part → HasTakenBytes most bytes piece count machine
+    → HasTakenBytes most (bytes ++ part) (piece ++ part) count machine
+piece_grows most bytes piece part count machine none (texts, whole, short, free, is, counted, took) =
+    (texts, whole, short, without_both piece part free none, ap (λ (l : List ℕ). l ++ part) is ∙ append_assoc (bytes_of_lines texts) piece part, counted, took)
 
 -- a line ends
-pub line_ends : (bytes piece part : List ℕ) (old new : Option Machine) → IsWithout 10 part → HasTakenBytes bytes piece old
-    → ((texts : List (List ℕ)) → TookTexts (spoken texts) old → TookTexts (spoken (texts ++ (piece ++ part) ∷ [])) new)
-    → HasTakenBytes (bytes ++ part ++ 10 ∷ []) [] new
-line_ends bytes piece part old new none (texts, whole, free, is, took) takes = (
+pub line_ends : (most : ℕ) (bytes piece part : List ℕ) (count next : ℕ) (old new : Option Machine) → IsWithout 10 part → length piece + length part ≤ most → next ≡ count + 1
+    → HasTakenBytes most bytes piece count old → ((texts : List (List ℕ)) → TookTexts (spoken texts) old → TookTexts (spoken (texts ++ (piece ++ part) ∷ [])) new)
+    → HasTakenBytes most (bytes ++ part ++ 10 ∷ []) [] next new
+line_ends most bytes piece part count next old new none fits follows (texts, whole, short, free, is, counted, took) takes = (
   texts ++ (piece ++ part) ∷ [],
   All-push (IsWithout 10) texts (piece ++ part) whole (without_both piece part free none),
+  All-push (λ (text : List ℕ). length text ≤ most) texts (piece ++ part) short (omega (arith, fits, length-append piece part)),
   tt,
   long,
+  omega (arith, follows, counted, length_push texts (piece ++ part)),
   takes texts took,
 )
   where
@@ -93,16 +96,17 @@ line_ends bytes piece part old new none (texts, whole, free, is, took) takes = (
         ∙ sym (flat_map-append (λ (line : List ℕ). line ++ 10 ∷ []) texts ((piece ++ part) ∷ []))
         ∙ sym (append-nil (bytes_of_lines (texts ++ (piece ++ part) ∷ [])))
 
-pub line_ends_ok : (bytes piece part : List ℕ) (old new : Option Machine) (result : Result (Unit {0}) RunFault) → IsWithout 10 part → HasTakenBytes bytes piece old
+pub line_ends_ok : (most : ℕ) (bytes piece part : List ℕ) (count next : ℕ) (old new : Option Machine) (result : Result (Unit {0}) RunFault) → IsWithout 10 part
+    → length piece + length part ≤ most → OnOk result (next ≡ count + 1) → HasTakenBytes most bytes piece count old
     → ((texts : List (List ℕ)) → TookTexts (spoken texts) old → OnOk result (TookTexts (spoken (texts ++ (piece ++ part) ∷ [])) new))
-    → OnOk result (HasTakenBytes (bytes ++ part ++ 10 ∷ []) [] new)
-line_ends_ok bytes piece part old new (Ok done) none taken takes = line_ends bytes piece part old new none taken takes
-line_ends_ok bytes piece part old new (Err why) none taken takes = tt
+    → OnOk result (HasTakenBytes most (bytes ++ part ++ 10 ∷ []) [] next new)
+line_ends_ok most bytes piece part count next old new (Ok done) none fits follows taken takes = line_ends most bytes piece part count next old new none fits follows taken takes
+line_ends_ok most bytes piece part count next old new (Err why) none fits follows taken takes = tt
 
 -- all that arrived was run
-pub whole_runs : (bytes : List ℕ) (machine : Option Machine) (wrong : Bool) → MatchOption machine (wrong ≡ false) (λ own. wrong ≡ own.teller.is_wrong) → HasTakenBytes bytes [] machine
-    → ScriptRuns bytes wrong
-whole_runs bytes machine wrong is (texts, whole, free, same, took) = (texts, whole, same ∙ append-nil (bytes_of_lines texts), by (spoken texts) machine is took)
+pub whole_runs : (most : ℕ) (bytes : List ℕ) (count : ℕ) (machine : Option Machine) (wrong : Bool) → MatchOption machine (wrong ≡ false) (λ own. wrong ≡ own.teller.is_wrong)
+    → HasTakenBytes most bytes [] count machine → ScriptRuns bytes wrong
+whole_runs most bytes count machine wrong is (texts, whole, short, free, same, counted, took) = (texts, whole, same ∙ append-nil (bytes_of_lines texts), by (spoken texts) machine is took)
   where
     by : (said : List (List ℕ)) (m : Option Machine) → MatchOption m (wrong ≡ false) (λ own. wrong ≡ own.teller.is_wrong) → TookTexts said m → TextsRun said wrong
     by [] m e none = subst (λ (o : Option Machine). MatchOption o (wrong ≡ false) (λ own. wrong ≡ own.teller.is_wrong)) none e
@@ -125,6 +129,12 @@ pub answered_text : (texts : List (List ℕ)) (text : List ℕ) (old new : Machi
 answered_text texts text old new (Ok taken) takes took = λ is. let (next, says, then) = takes is in next_text texts text next old new says then took
 answered_text texts text old new (Err why) takes took = takes
 
+-- there is no machine yet, and the line asks for none
+pub refused_answer : (text : List ℕ) (machine : Option Machine) (result : Result Bool RunFault) → machine ≡ None → is_spoken text ≡ true
+    → IfOk result (λ taken. taken ≡ false → Reads None (IsSetupLine text)) → IfOk result (λ taken. taken ≡ false → IsRefused machine text)
+refused_answer text machine (Ok taken) none speaks refuses = λ is. subst (λ (m : Option Machine). IsRefused m text) (sym none) (speaks, refuses is)
+refused_answer text machine (Err why) none speaks refuses = tt
+
 pub spoken_answer : (texts : List (List ℕ)) (text : List ℕ) (new : Option Machine) (result : Result Bool RunFault) → is_spoken text ≡ true
     → IfOk result (λ taken. taken ≡ true → TookTexts (spoken texts ++ text ∷ []) new) → IfOk result (λ taken. taken ≡ true → TookTexts (spoken (texts ++ text ∷ [])) new)
 spoken_answer texts text new result is took =
@@ -146,7 +156,8 @@ pub grouped : (a b c d : List ℕ) → ((a ++ b) ++ c) ++ d ≡ a ++ ((b ++ c) +
 grouped a b c d = ap (λ (l : List ℕ). l ++ d) (append_assoc a b c) ∙ append_assoc a (b ++ c) d
 
 -- the rest is a piece of a line
-pub kept_ok : (bytes piece part new_piece : List ℕ) (machine : Option Machine) (result : Result (Unit {0}) RunFault) → IsWithout 10 part → HasTakenBytes bytes piece machine
-    → OnOk result (new_piece ≡ piece ++ part) → OnOk result (HasTakenBytes (bytes ++ part) new_piece machine)
-kept_ok bytes piece part new_piece machine (Ok done) none taken is = subst (λ (p : List ℕ). HasTakenBytes (bytes ++ part) p machine) (sym is) (piece_grows bytes piece part machine none taken)
-kept_ok bytes piece part new_piece machine (Err why) none taken is = tt
+pub kept_ok : (most : ℕ) (bytes piece part new_piece : List ℕ) (count : ℕ) (machine : Option Machine) (result : Result (Unit {0}) RunFault) → IsWithout 10 part
+    → HasTakenBytes most bytes piece count machine → OnOk result (new_piece ≡ piece ++ part) → OnOk result (HasTakenBytes most (bytes ++ part) new_piece count machine)
+kept_ok most bytes piece part new_piece count machine (Ok done) none taken is =
+    subst (λ (p : List ℕ). HasTakenBytes most (bytes ++ part) p count machine) (sym is) (piece_grows most bytes piece part count machine none taken)
+kept_ok most bytes piece part new_piece count machine (Err why) none taken is = tt

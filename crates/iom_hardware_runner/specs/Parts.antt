@@ -1,15 +1,23 @@
 -- Where the parts of a runner have come to: what their private functions keep. No public contract cites it.
-use Rattle.std.specs.Prelude.{◌≡◌, ℕ, ◌==◌, Bool, true, false, List, [], ◌∷◌, ◌++◌, Option, None, Some}
+use Rattle.std.specs.Prelude.{◌≡◌, ℕ, ◌+◌, ◌<◌, ◌≤◌, ◌==◌, ◌⊎◌, Bool, true, false, List, [], ◌∷◌, ◌++◌, length, Option, None, Some}
 use Rattle.std.specs.List.{All}
-use Rattle.iom_hardware_runner.specs.Runs.{SpellsOut, is_asked, HasRun}
+use Rattle.iom_hardware_runner.specs.Runs.{SpellsOut, is_asked, HasRun, NamesLine}
 use Rattle.iom_hardware_runner.specs.declared.arriving.Arriving.{Arriving}
+use Rattle.iom_hardware_runner.specs.declared.faults.RunFault.{RunFault}
+use Rattle.iom_hardware_runner.specs.declared.faults.RunFault.TheVariants.{BadScript, Reading, Memory}
 use Rattle.iom_hardware_runner.specs.declared.helper.Helper.{Helper}
 use Rattle.iom_hardware_runner.specs.declared.machine.Machine.{Machine}
 use Rattle.iom_hardware_runner.specs.declared.teller.Teller.{Teller}
 use Rattle.iom_hardware_script.specs.declared.script.HardwareLine.{HardwareLine}
-use Rattle.iom_hardware_script.specs.Grammar.{IsSetupLine, IsHardwareLine}
+use Rattle.iom_hardware_script.specs.declared.script.HardwareScript.{HardwareScript}
+use Rattle.iom_hardware_script.specs.Grammar.{IsSetupLine, IsHardwareLine, SayHardware}
+use Rattle.iom_script.specs.declared.parser.ScriptFault.{ScriptFault}
+use Rattle.iom_script.specs.declared.parser.ScriptFault.TheVariants as script_faults
 use Rattle.iom_script.specs.Words.{IsWithout}
-use Rattle.iom_script.specs.Grammar.{SayEach, spoken, bytes_of_lines}
+use Rattle.iom_script.specs.Grammar.{SayEach, is_spoken, spoken, bytes_of_lines}
+use Rattle.iom_script.specs.Reading.{Reads}
+use Rattle.iom_script_reading.specs.declared.reading.ReadFault.{ReadFault}
+use Rattle.iom_script_reading.specs.declared.reading.ReadFault.TheVariants as read_faults
 
 -- the session stays, and whether anything was wrong
 abbrev pub KeepsSession : Teller → Teller → Type 0
@@ -48,10 +56,62 @@ TookTexts [] machine = machine ≡ None
 TookTexts (setup ∷ texts) machine =
     (own : Machine) × (frames : ℕ) × (said : List HardwareLine) × (machine ≡ Some own) × IsSetupLine setup frames × SayEach IsHardwareLine texts said × CameBy frames said own
 
--- these bytes arrived: lines that were taken, and a piece of one
-abbrev pub HasTakenBytes : List ℕ → List ℕ → Option Machine → Type 0
-HasTakenBytes bytes piece machine =
-    (texts : List (List ℕ)) × All (IsWithout 10) texts × IsWithout 10 piece × (bytes ≡ bytes_of_lines texts ++ piece) × TookTexts (spoken texts) machine
+-- the text isn't in the grammar in its place: it says something, and neither how much memory there is, where nothing was said yet, nor what happens
+abbrev pub IsRefused : Option Machine → List ℕ → Type 0
+IsRefused None text = (is_spoken text ≡ true) × Reads None (IsSetupLine text)
+IsRefused (Some machine) text = (is_spoken text ≡ true) × Reads None (IsHardwareLine text)
 
-abbrev pub HasArrived : List ℕ → Arriving → Type 0
-HasArrived bytes arriving = HasTakenBytes bytes arriving.piece.items arriving.conversation.machine
+-- a line came in these two parts, and isn't in the grammar in its place; or it came in pieces, and has too many bytes
+abbrev pub IsBadLine : Option Machine → (piece part : List ℕ) → Type 0
+IsBadLine machine piece part = IsRefused machine (piece ++ part) ⊎ ((0 < length piece) × (65536 < length piece + length part))
+
+-- these bytes arrived: so many lines that were taken, none of more bytes than these, and a piece of one
+abbrev pub HasTakenBytes : (most : ℕ) → List ℕ → List ℕ → (count : ℕ) → Option Machine → Type 0
+HasTakenBytes most bytes piece count machine =
+    (texts : List (List ℕ)) × All (IsWithout 10) texts × All (λ text. length text ≤ most) texts × IsWithout 10 piece × (bytes ≡ bytes_of_lines texts ++ piece)
+    × (count ≡ length texts) × TookTexts (spoken texts) machine
+
+abbrev pub HasArrived : (most : ℕ) → List ℕ → Arriving → Type 0
+HasArrived most bytes arriving = HasTakenBytes most bytes arriving.piece.items arriving.conversation.lines arriving.conversation.machine
+
+-- a line may have so many bytes, those of the longest line in pieces at least, and those that come now
+abbrev pub IsRoomFor : (most : ℕ) → List ℕ → Type 0
+IsRoomFor most bytes = (65536 ≤ most) × (length bytes ≤ most)
+
+-- WHERE BYTES STOP BEING LINES OF THE GRAMMAR: these lines were taken, and what begins there is bad
+pub record Breaks (IsBad : List (List ℕ) → List ℕ → Type 0) (most : ℕ) (bytes : List ℕ) (number : ℕ) : Type 0 where
+  pub texts : List (List ℕ)
+  pub rest : List ℕ
+  pub whole : All (IsWithout 10) texts
+  pub short : All (λ text. length text ≤ most) texts
+  pub says : (script : HardwareScript) × SayHardware texts script
+  pub place : bytes ≡ bytes_of_lines texts ++ rest
+  pub count : number ≡ length texts + 1
+  pub bad : IsBad texts rest
+
+-- a line ends there with which they say nothing; or one in pieces has too many bytes, and where its first piece was to come yet, it doesn't end
+abbrev pub IsBadRest : (starts : Type 0) → List (List ℕ) → List ℕ → Type 0
+IsBadRest starts texts rest =
+    ((line after : List ℕ) × (rest ≡ line ++ 10 ∷ after) × IsWithout 10 line × ((script : HardwareScript) → ¬ SayHardware (texts ++ line ∷ []) script))
+    ⊎ ((line after : List ℕ) × (rest ≡ line ++ after) × IsWithout 10 line × (65536 < length line) × (starts → after ≡ []))
+
+-- no line ends there, and there are bytes
+abbrev pub IsUnended : List (List ℕ) → List ℕ → Type 0
+IsUnended texts rest = IsWithout 10 rest × (0 < length rest)
+
+-- a fault that names a line names the one behind these, and this is so
+abbrev pub NamesNext : (count : ℕ) → Type 0 → RunFault → Type 0
+NamesNext count IsBad fault = NamesLine (λ number. (number ≡ count + 1) × IsBad) fault
+
+-- it names none
+abbrev pub NamesNone : RunFault → Type 0
+NamesNone fault = NamesLine (λ number. ⊥) fault
+
+-- THE FAULTS THAT COME FROM BELOW
+abbrev pub script_fault_of : ScriptFault → RunFault
+script_fault_of (script_faults.Line number) = BadScript number
+script_fault_of script_faults.Memory = Memory
+
+abbrev pub read_fault_of : ReadFault → RunFault
+read_fault_of read_faults.Reading = Reading
+read_fault_of read_faults.Memory = Memory

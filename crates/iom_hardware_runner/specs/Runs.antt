@@ -1,11 +1,14 @@
 -- What a script of a driver under test comes to: a run of a session from power-on.
-use Rattle.std.specs.Prelude.{◌≡◌, ℕ, Bool, true, false, List, [], ◌∷◌, ◌++◌, map}
+use Rattle.std.specs.Prelude.{◌≡◌, ℕ, ◌+◌, ◌<◌, ◌≤◌, ⊤, Bool, true, false, List, [], ◌∷◌, ◌++◌, map, length}
 use Rattle.std.specs.List.{list_any}
 use Rattle.iom_claims.specs.Claimed.{Claimed, nothing_claimed}
+use Rattle.iom_hardware_runner.specs.declared.faults.RunFault.{RunFault}
+use Rattle.iom_hardware_runner.specs.declared.faults.RunFault.TheVariants.{BadScript, Reading, Writing, Memory, TooManyEvents}
 use Rattle.iom_hardware_script.specs.declared.script.HardwareLine.{HardwareLine}
 use Rattle.iom_hardware_script.specs.declared.script.HardwareLine.TheVariants as line
+use Rattle.iom_hardware_script.specs.declared.script.HardwareScript.{HardwareScript}
 use Rattle.iom_hardware_script.specs.declared.script.Help.{Help}
-use Rattle.iom_hardware_script.specs.Grammar.{IsSetupLine, IsHardwareLine}
+use Rattle.iom_hardware_script.specs.Grammar.{IsSetupLine, IsHardwareLine, SayHardware}
 use Rattle.iom_hardware_session.specs.Runs.{LineReply, GoThrough, is_any_reply_wrong, IsSessionAtPowerOn}
 use Rattle.iom_hardware_session.specs.declared.state.Session.{Session}
 use Rattle.iom_machine.specs.declared.event.Event.TheVariants.{Read, Write, WriteThroughCache, Ask, Commit, Fetch, Deliver, Step}
@@ -64,3 +67,28 @@ TextsRun (setup ∷ texts) wrong =
 -- THE BYTES ARE A SCRIPT that was run so, and this is whether anything was wrong
 abbrev pub ScriptRuns : List ℕ → Bool → Type 0
 ScriptRuns bytes wrong = (texts : List (List ℕ)) × All (IsWithout 10) texts × (bytes ≡ bytes_of_lines texts) × TextsRun (spoken texts) wrong
+
+-- lines of a live session, each up to its line feed: none has more than 65,536 bytes, and they say a script, as long as it may be
+pub record MakeSession (lines : List (List ℕ)) (script : HardwareScript) : Type 0 where
+  pub whole : All (IsWithout 10) lines
+  pub short : All (λ line. length line ≤ 65536) lines
+  pub says : SayHardware lines script
+
+-- these lines make a session, bytes follow them, and with the line that begins there, if it ends at all, they make none
+pub record SessionBreaksAfter (bytes : List ℕ) (lines : List (List ℕ)) (rest : List ℕ) : Type 0 where
+  pub before : (script : HardwareScript) × MakeSession lines script
+  pub place : bytes ≡ bytes_of_lines lines ++ rest
+  pub more : 0 < length rest
+  pub bad : (line after : List ℕ) (script : HardwareScript) → rest ≡ line ++ 10 ∷ after → ¬ MakeSession (lines ++ line ∷ []) script
+
+-- THE BYTES AREN'T A LIVE SESSION, and this is the first line that isn't in the grammar: counted from 1, over comments and empty lines too
+abbrev pub IsFirstBadSessionLine : List ℕ → ℕ → Type 0
+IsFirstBadSessionLine bytes number = (lines : List (List ℕ)) × (rest : List ℕ) × SessionBreaksAfter bytes lines rest × (number ≡ length lines + 1)
+
+-- where the fault names a line, this is so of its number
+abbrev pub NamesLine : (ℕ → Type 0) → RunFault → Type 0
+NamesLine Is (BadScript number) = Is number
+NamesLine Is Reading = ⊤
+NamesLine Is Writing = ⊤
+NamesLine Is Memory = ⊤
+NamesLine Is TooManyEvents = ⊤

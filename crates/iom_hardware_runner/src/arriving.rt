@@ -1,7 +1,7 @@
 // Lines that come in pieces.
-ghost use Rattle.std.specs.Prelude.{◌≡◌, ◌++◌, ◌∷◌, [], ℕ, List, IfOk, OnOk};
-ghost use Rattle.iom_hardware_runner.specs.Parts.{HasArrived};
-ghost use Rattle.iom_hardware_runner.specs.Runs.{ScriptRuns};
+ghost use Rattle.std.specs.Prelude.{◌≡◌, ◌+◌, ◌<◌, ◌≤◌, ◌++◌, ◌∷◌, [], ℕ, List, length, IfOk, IfErr, OnOk};
+ghost use Rattle.iom_hardware_runner.specs.Parts.{HasArrived, IsBadLine, IsRoomFor, Breaks, IsBadRest, IsUnended, NamesNext};
+ghost use Rattle.iom_hardware_runner.specs.Runs.{ScriptRuns, NamesLine};
 ghost use Rattle.iom_script.specs.Words.{IsWithout};
 
 use crate::conversation::Conversation;
@@ -23,7 +23,8 @@ pub(crate) struct Arriving {
 
 impl Arriving {
     pub(crate) fn new(alloc: Global) -> Arriving
-        ensures { HasArrived [] result }
+        ensures arrived { (most : ℕ) → HasArrived most [] result }
+        ensures empty { result.piece.items ≡ [] }
     {
         Arriving {
             conversation: Conversation::new(alloc),
@@ -32,7 +33,9 @@ impl Arriving {
     }
 
     /// The line that comes next is none.
-    fn bad_line(&self) -> RunFault {
+    fn bad_line(&self) -> RunFault
+        ensures { NamesLine (λ number. number ≡ self.now.conversation.lines + 1) result }
+    {
         match self.conversation.next_number() {
             Ok(number) => RunFault::BadScript(number),
             Err(fault) => fault,
@@ -43,6 +46,8 @@ impl Arriving {
     fn keep(&mut self, part: &[u8]) -> Result<(), RunFault>
         ensures kept { OnOk result (self.new.piece.items ≡ self.old.piece.items ++ part.now) }
         ensures rest { self.new.conversation ≡ self.old.conversation }
+        ensures short { OnOk result (length self.new.piece.items ≤ 65536) }
+        ensures named { IfErr result (NamesNext self.old.conversation.lines (65536 < length self.old.piece.items + length part.now)) }
     {
         if part.len() > LINE_LIMIT || self.piece.len() > LINE_LIMIT - part.len() {
             return Err(self.bad_line());
@@ -54,7 +59,10 @@ impl Arriving {
 
     /// The rest of a line came, up to its line feed.
     fn end_line(&mut self, part: &[u8]) -> Result<(), RunFault>
-        ensures { (bytes : List ℕ) → IsWithout 10 part.now → HasArrived bytes self.old → OnOk result (HasArrived (bytes ++ part.now ++ 10 ∷ []) self.new) }
+        ensures taken { (most : ℕ) (bytes : List ℕ) → IsRoomFor most part.now → IsWithout 10 part.now → HasArrived most bytes self.old
+            → OnOk result (HasArrived most (bytes ++ part.now ++ 10 ∷ []) self.new) }
+        ensures empty { OnOk result (self.new.piece.items ≡ []) }
+        ensures named { IfErr result (NamesNext self.old.conversation.lines (IsBadLine self.old.conversation.machine self.old.piece.items part.now)) }
     {
         if self.piece.is_empty() {
             return self.conversation.take_line(part);
@@ -73,7 +81,10 @@ impl Arriving {
         writer: &mut W,
         log: &mut L,
     ) -> Result<(), RunFault>
-        ensures { (before : List ℕ) → HasArrived before self.old → OnOk result (HasArrived (before ++ bytes.now) self.new) }
+        ensures taken { (most : ℕ) (before : List ℕ) → IsRoomFor most bytes.now → HasArrived most before self.old
+            → OnOk result (HasArrived most (before ++ bytes.now) self.new) }
+        ensures named { (most : ℕ) (before : List ℕ) → IsRoomFor most bytes.now → HasArrived most before self.old
+            → IfErr result (NamesLine (Breaks (IsBadRest (self.old.piece.items ≡ [])) most (before ++ bytes.now))) }
     {
         let mut rest = bytes;
         while let Some((line, after)) = cut(rest, b'\n') {
@@ -92,7 +103,10 @@ impl Arriving {
         writer: &mut W,
         log: &mut L,
     ) -> Result<(), RunFault>
-        ensures { (before : List ℕ) → HasArrived before self.old → OnOk result (HasArrived (before ++ bytes.now) self.new) }
+        ensures taken { (most : ℕ) (before : List ℕ) → IsRoomFor most bytes.now → HasArrived most before self.old
+            → OnOk result (HasArrived most (before ++ bytes.now) self.new) }
+        ensures named { (most : ℕ) (before : List ℕ) → IsRoomFor most bytes.now → HasArrived most before self.old
+            → IfErr result (NamesLine (Breaks (IsBadRest (self.old.piece.items ≡ [])) most (before ++ bytes.now))) }
     {
         let taken = self.take_lines(bytes, writer, log);
         self.conversation.output.write(writer, log)?;
@@ -101,7 +115,8 @@ impl Arriving {
 
     /// No more comes. Whether anything was wrong.
     pub(crate) fn end(&self) -> Result<bool, RunFault>
-        ensures { (bytes : List ℕ) → HasArrived bytes self.now → IfOk result (ScriptRuns bytes) }
+        ensures ran { (most : ℕ) (bytes : List ℕ) → HasArrived most bytes self.now → IfOk result (ScriptRuns bytes) }
+        ensures named { (most : ℕ) (bytes : List ℕ) → HasArrived most bytes self.now → IfErr result (NamesLine (Breaks IsUnended most bytes)) }
     {
         if self.piece.is_empty() {
             Ok(self.conversation.is_wrong())

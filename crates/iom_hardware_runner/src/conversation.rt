@@ -1,7 +1,9 @@
 // Lines of a driver under test one after another.
-ghost use Rattle.std.specs.Prelude.{◌≡◌, ◌++◌, ◌∷◌, [], ℕ, List, None, true, MatchOption, false, IfOk, OnOk};
-ghost use Rattle.iom_hardware_runner.specs.Parts.{TookTexts};
-ghost use Rattle.iom_script.specs.Grammar.{spoken};
+ghost use Rattle.std.specs.Prelude.{◌≡◌, ◌+◌, ◌++◌, ◌∷◌, [], ℕ, List, None, true, MatchOption, false, IfOk, IfErr, OnOk};
+ghost use Rattle.iom_hardware_runner.specs.Parts.{TookTexts, IsRefused, NamesNext, NamesNone};
+ghost use Rattle.iom_hardware_script.specs.Grammar.{IsSetupLine};
+ghost use Rattle.iom_script.specs.Grammar.{is_spoken, spoken};
+ghost use Rattle.iom_script.specs.Reading.{Reads};
 
 use crate::faults::RunFault;
 use crate::machine::Machine;
@@ -23,7 +25,8 @@ pub(crate) struct Conversation {
 
 impl Conversation {
     pub(crate) fn new(alloc: Global) -> Conversation
-        ensures { result.machine ≡ None }
+        ensures machine { result.machine ≡ None }
+        ensures lines { result.lines ≡ 0 }
     {
         Conversation {
             alloc,
@@ -35,7 +38,9 @@ impl Conversation {
 
     /// The first line that says something: that of the hardware. False where it isn't in the grammar in its place.
     fn begin(&mut self, text: &[u8]) -> Result<bool, RunFault>
-        ensures { IfOk result (λ taken. taken ≡ true → TookTexts (text.now ∷ []) self.new.machine) }
+        ensures taken { IfOk result (λ taken. taken ≡ true → TookTexts (text.now ∷ []) self.new.machine) }
+        ensures refused { IfOk result (λ taken. taken ≡ false → Reads None (IsSetupLine text.now)) }
+        ensures named { IfErr result NamesNone }
     {
         let Some(machine) = Machine::new(self.alloc, text)? else {
             return Ok(false);
@@ -48,8 +53,10 @@ impl Conversation {
 
     /// A line that says something happens. False where it isn't in the grammar in its place.
     fn answer(&mut self, text: &[u8]) -> Result<bool, RunFault>
-        ensures { (texts : List (List ℕ)) → TookTexts texts self.old.machine
+        ensures taken { (texts : List (List ℕ)) → TookTexts texts self.old.machine
             → IfOk result (λ taken. taken ≡ true → TookTexts (texts ++ text.now ∷ []) self.new.machine) }
+        ensures refused { is_spoken text.now ≡ true → IfOk result (λ taken. taken ≡ false → IsRefused self.old.machine text.now) }
+        ensures named { IfErr result NamesNone }
     {
         match &mut self.machine {
             Some(machine) => machine.take_line(text, &mut self.output),
@@ -59,8 +66,10 @@ impl Conversation {
 
     /// A line happens, where it says something. False where it isn't in the grammar in its place.
     fn happen(&mut self, text: &[u8]) -> Result<bool, RunFault>
-        ensures { (texts : List (List ℕ)) → TookTexts (spoken texts) self.old.machine
+        ensures taken { (texts : List (List ℕ)) → TookTexts (spoken texts) self.old.machine
             → IfOk result (λ taken. taken ≡ true → TookTexts (spoken (texts ++ text.now ∷ [])) self.new.machine) }
+        ensures refused { IfOk result (λ taken. taken ≡ false → IsRefused self.old.machine text.now) }
+        ensures named { IfErr result NamesNone }
     {
         if !is_spoken(text) {
             self.output.log(b"", text)?;
@@ -72,8 +81,10 @@ impl Conversation {
     /// The next line, without its line feed: it happens, and its answer and the line itself wait to be written. Of a line
     /// that isn't in the grammar nothing happens, and nothing waits.
     pub(crate) fn take_line(&mut self, text: &[u8]) -> Result<(), RunFault>
-        ensures { (texts : List (List ℕ)) → TookTexts (spoken texts) self.old.machine
+        ensures taken { (texts : List (List ℕ)) → TookTexts (spoken texts) self.old.machine
             → OnOk result (TookTexts (spoken (texts ++ text.now ∷ [])) self.new.machine) }
+        ensures counted { OnOk result (self.new.lines ≡ self.old.lines + 1) }
+        ensures named { IfErr result (NamesNext self.old.lines (IsRefused self.old.machine text.now)) }
     {
         let number = self.next_number()?;
         if !self.happen(text)? {
@@ -84,7 +95,10 @@ impl Conversation {
     }
 
     /// The number of the line that comes next, from 1.
-    pub(crate) fn next_number(&self) -> Result<u64, RunFault> {
+    pub(crate) fn next_number(&self) -> Result<u64, RunFault>
+        ensures counted { IfOk result (λ number. number ≡ self.now.lines + 1) }
+        ensures named { IfErr result NamesNone }
+    {
         match self.lines.checked_add(1) {
             Some(number) => Ok(number),
             None => Err(RunFault::TooManyEvents),

@@ -1,5 +1,6 @@
 // Why a script isn't run to its end, and the exit status then.
 ghost use Rattle.std.specs.Prelude.{◌≡◌};
+ghost use Rattle.iom_hardware_runner.specs.Parts.{script_fault_of, read_fault_of};
 ghost use Rattle.iom_hardware_runner.specs.Statuses.{status_of};
 
 use iom_script::ScriptFault;
@@ -22,6 +23,8 @@ pub enum RunFault {
 }
 
 impl From<ScriptFault> for RunFault {
+    ghost from_gives = { λ fault run. run ≡ script_fault_of fault };
+
     fn from(fault: ScriptFault) -> RunFault {
         match fault {
             ScriptFault::Memory => RunFault::Memory,
@@ -31,6 +34,8 @@ impl From<ScriptFault> for RunFault {
 }
 
 impl From<ReadFault> for RunFault {
+    ghost from_gives = { λ fault run. run ≡ read_fault_of fault };
+
     fn from(fault: ReadFault) -> RunFault {
         match fault {
             ReadFault::Reading => RunFault::Reading,

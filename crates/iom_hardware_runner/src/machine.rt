@@ -1,6 +1,6 @@
 // Hardware under a driver: each line happens and is answered, and between two lines hardware may act by itself.
-ghost use Rattle.std.specs.Prelude.{◌≡◌, ◌++◌, ◌∷◌, [], ℕ, List, true, false, IfOk, OnOk, IfSome};
-ghost use Rattle.iom_hardware_runner.specs.Parts.{TellsLine, CameBy, RunsOn, ActsOn, MachineTakesLine};
+ghost use Rattle.std.specs.Prelude.{◌≡◌, ◌++◌, ◌∷◌, [], ℕ, List, None, true, false, IfOk, IfErr, OnOk, IfSome};
+ghost use Rattle.iom_hardware_runner.specs.Parts.{TellsLine, CameBy, RunsOn, ActsOn, MachineTakesLine, NamesNone};
 ghost use Rattle.iom_hardware_runner.specs.Runs.{is_own};
 ghost use Rattle.iom_hardware_script.specs.declared.script.HardwareLine.{HardwareLine as Line};
 ghost use Rattle.iom_hardware_script.specs.declared.script.HardwareLine.TheVariants as says;
@@ -48,7 +48,8 @@ fn is_of_software(line: &HardwareLine) -> bool {
 
 /// What the text of a line says, if it is in the grammar.
 fn read(alloc: Global, text: &[u8]) -> Result<Option<HardwareLine>, RunFault>
-    ensures { IfOk result (λ said. Reads said (IsHardwareLine text.now)) }
+    ensures said { IfOk result (λ said. Reads said (IsHardwareLine text.now)) }
+    ensures named { IfErr result NamesNone }
 {
     line_of(alloc, text).map_err(|_| RunFault::Memory)
 }
@@ -76,7 +77,9 @@ fn is_own(line: &HardwareLine) -> bool
 impl Machine {
     /// The hardware that the first line of a script asks for, at power-on. None where the line asks for none.
     pub(crate) fn new(alloc: Global, text: &[u8]) -> Result<Option<Machine>, RunFault>
-        ensures { IfOk result (λ found. IfSome found (λ machine. (frames : ℕ) × IsSetupLine text.now frames × CameBy frames [] machine)) }
+        ensures begins { IfOk result (λ found. IfSome found (λ machine. (frames : ℕ) × IsSetupLine text.now frames × CameBy frames [] machine)) }
+        ensures refused { IfOk result (λ found. found ≡ None → Reads None (IsSetupLine text.now)) }
+        ensures named { IfErr result NamesNone }
     {
         let Some(frames) = setup_of(text) else {
             return Ok(None);
@@ -104,7 +107,9 @@ impl Machine {
     /// A line of a script happens, behind steps that hardware takes by itself. False where it isn't in the grammar; then
     /// nothing happens.
     pub(crate) fn take_line(&mut self, text: &[u8], output: &mut Output) -> Result<bool, RunFault>
-        ensures { IfOk result (λ taken. taken ≡ true → (line : Line) × IsHardwareLine text.now line × MachineTakesLine self.old line self.new) }
+        ensures taken { IfOk result (λ taken. taken ≡ true → (line : Line) × IsHardwareLine text.now line × MachineTakesLine self.old line self.new) }
+        ensures refused { IfOk result (λ taken. taken ≡ false → Reads None (IsHardwareLine text.now)) }
+        ensures named { IfErr result NamesNone }
     {
         let Some(said) = read(self.alloc, text)? else {
             return Ok(false);
@@ -124,6 +129,7 @@ impl Machine {
     fn tell(&mut self, said: HardwareLine, output: &Output) -> Result<String, RunFault>
         ensures reply { OnOk result (TellsLine self.old.teller said self.new.teller) }
         ensures helper { self.new.helper ≡ self.old.helper }
+        ensures named { IfErr result NamesNone }
     {
         if self.teller.events() >= u64::MAX - 1 {
             return Err(RunFault::TooManyEvents);
@@ -136,7 +142,10 @@ impl Machine {
     }
 
     /// Appends the answer of what happened last, and the words behind it.
-    fn answer(&self, words: &str, output: &mut Output) -> Result<(), RunFault> {
+    fn answer(&self, words: &str, output: &mut Output) -> Result<(), RunFault>
+        ensures kept { OnOk result (output.new.answers.items ≡ output.old.answers.items ++ self.now.teller.buffer ++ words.now ++ 10 ∷ []) }
+        ensures named { IfErr result NamesNone }
+    {
         output.answer(self.teller.answer())?;
         output.answer(words.as_bytes())?;
         output.answer(b"\n")
@@ -144,7 +153,8 @@ impl Machine {
 
     /// Hardware takes the step that is drawn next, if it can take one.
     fn act_once(&mut self, output: &mut Output) -> Result<(), RunFault>
-        ensures { OnOk result (ActsOn self.old self.new) }
+        ensures acts { OnOk result (ActsOn self.old self.new) }
+        ensures named { IfErr result NamesNone }
     {
         let step = self
             .helper
@@ -158,7 +168,8 @@ impl Machine {
 
     /// Hardware takes so many steps by itself.
     fn act_often(&mut self, count: u64, output: &mut Output) -> Result<(), RunFault>
-        ensures { OnOk result (ActsOn self.old self.new) }
+        ensures acts { OnOk result (ActsOn self.old self.new) }
+        ensures named { IfErr result NamesNone }
     {
         for _ in 0..count {
             self.act_once(output)?;
@@ -168,7 +179,8 @@ impl Machine {
 
     /// Hardware takes as many steps by itself as are drawn.
     fn act(&mut self, output: &mut Output) -> Result<(), RunFault>
-        ensures { OnOk result (RunsOn self.old self.new) }
+        ensures runs { OnOk result (RunsOn self.old self.new) }
+        ensures named { IfErr result NamesNone }
     {
         if self.helper.is_off() {
             return Ok(());
@@ -179,7 +191,8 @@ impl Machine {
 
     /// Before what software does hardware may act by itself.
     fn act_before(&mut self, said: &HardwareLine, output: &mut Output) -> Result<(), RunFault>
-        ensures { OnOk result (RunsOn self.old self.new) }
+        ensures runs { OnOk result (RunsOn self.old self.new) }
+        ensures named { IfErr result NamesNone }
     {
         if is_of_software(said) {
             self.act(output)
@@ -190,7 +203,8 @@ impl Machine {
 
     /// What the text says happens. The words behind its answer; None where hardware does no such thing by itself.
     fn tell_step(&mut self, text: &str, output: &Output) -> Result<Option<String>, RunFault>
-        ensures { OnOk result (ActsOn self.old self.new) }
+        ensures acts { OnOk result (ActsOn self.old self.new) }
+        ensures named { IfErr result NamesNone }
     {
         let Some(said) = read(self.alloc, text.as_bytes())? else {
             return Ok(None);
@@ -204,7 +218,8 @@ impl Machine {
 
     /// A step happens, and is told as a comment.
     fn take_step(&mut self, step: Step, output: &mut Output) -> Result<(), RunFault>
-        ensures { OnOk result (ActsOn self.old self.new) }
+        ensures acts { OnOk result (ActsOn self.old self.new) }
+        ensures named { IfErr result NamesNone }
     {
         let text = format!(in self.alloc; "{step}").map_err(|_| RunFault::Memory)?;
         let Some(words) = self.tell_step(&text, output)? else {
@@ -219,7 +234,8 @@ impl Machine {
 
     /// Hardware is asked to act by itself. A line after which it draws is a comment of the log, which has what was drawn.
     fn help(&mut self, help: Help, text: &[u8], output: &mut Output) -> Result<(), RunFault>
-        ensures { OnOk result (MachineTakesLine self.old (says.Help help) self.new) }
+        ensures taken { OnOk result (MachineTakesLine self.old (says.Help help) self.new) }
+        ensures named { IfErr result NamesNone }
     {
         match help {
             Help::Auto { seed } => {
@@ -250,7 +266,8 @@ impl Machine {
         last: u64,
         output: &mut Output,
     ) -> Result<(), RunFault>
-        ensures { self.new.teller ≡ self.old.teller }
+        ensures teller { self.new.teller ≡ self.old.teller }
+        ensures named { IfErr result NamesNone }
     {
         let hardware = self.teller.session.hardware();
         let directed = self.helper.direct(hardware, device, first, last);
@@ -266,7 +283,8 @@ impl Machine {
     /// Takes the next step of those that bring hardware to rest. Whether it did something, and whether that was a
     /// violation.
     fn settle_once(&mut self, output: &Output) -> Result<Settling, RunFault>
-        ensures { OnOk result (ActsOn self.old self.new) }
+        ensures acts { OnOk result (ActsOn self.old self.new) }
+        ensures named { IfErr result NamesNone }
     {
         let hardware = self.teller.session.hardware();
         let head = hardware.iommu.registers().command_head();
@@ -291,7 +309,8 @@ impl Machine {
 
     /// Hardware goes on until it rests. How many things it did, and how many of them were violations.
     fn settle(&mut self, output: &Output) -> Result<(u64, u64), RunFault>
-        ensures { OnOk result (ActsOn self.old self.new) }
+        ensures acts { OnOk result (ActsOn self.old self.new) }
+        ensures named { IfErr result NamesNone }
     {
         let mut steps = 0u64;
         let mut violations = 0u64;
@@ -308,7 +327,8 @@ impl Machine {
 
     /// Hardware comes to rest: what is in flight is made, what is under way delivered, and commands are taken.
     fn quiesce(&mut self, output: &mut Output) -> Result<(), RunFault>
-        ensures { OnOk result (ActsOn self.old self.new) }
+        ensures acts { OnOk result (ActsOn self.old self.new) }
+        ensures named { IfErr result NamesNone }
     {
         let (steps, violations) = self.settle(output)?;
         let quiet = format!(in self.alloc; "quiet {steps}").map_err(|_| RunFault::Memory)?;

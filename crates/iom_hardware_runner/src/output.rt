@@ -1,4 +1,7 @@
 // What waits to be written out: answers, and the log.
+ghost use Rattle.std.specs.Prelude.{◌≡◌, ◌++◌, IfErr, OnOk};
+ghost use Rattle.iom_hardware_runner.specs.Parts.{NamesNone};
+
 use crate::faults::RunFault;
 use std::alloc::Global;
 use std::io::Write;
@@ -18,14 +21,19 @@ pub(crate) struct Output {
 }
 
 /// Appends to what waits.
-fn put(waiting: &mut Vec<u8>, bytes: &[u8]) -> Result<(), RunFault> {
+fn put(waiting: &mut Vec<u8>, bytes: &[u8]) -> Result<(), RunFault>
+    ensures appended { OnOk result (waiting.new.items ≡ waiting.old.items ++ bytes.now) }
+    ensures named { IfErr result NamesNone }
+{
     waiting
         .extend_from_slice(bytes)
         .map_err(|_| RunFault::Memory)
 }
 
 /// Writes what waits. It waits no more, whatever comes of it.
-fn write_out<W: Write>(writer: &mut W, waiting: &mut Vec<u8>) -> Result<(), RunFault> {
+fn write_out<W: Write>(writer: &mut W, waiting: &mut Vec<u8>) -> Result<(), RunFault>
+    ensures named { IfErr result NamesNone }
+{
     let written = writer.write_all(waiting);
     waiting.clear();
     written.map_err(|_| RunFault::Writing)?;
@@ -42,7 +50,9 @@ impl Output {
     }
 
     /// The number that the next line of the log has, from 1.
-    pub(crate) fn next_number(&self) -> Result<u64, RunFault> {
+    pub(crate) fn next_number(&self) -> Result<u64, RunFault>
+        ensures named { IfErr result NamesNone }
+    {
         match self.logged.checked_add(1) {
             Some(number) => Ok(number),
             None => Err(RunFault::TooManyEvents),
@@ -50,12 +60,17 @@ impl Output {
     }
 
     /// A part of an answer.
-    pub(crate) fn answer(&mut self, part: &[u8]) -> Result<(), RunFault> {
+    pub(crate) fn answer(&mut self, part: &[u8]) -> Result<(), RunFault>
+        ensures appended { OnOk result (self.new.answers.items ≡ self.old.answers.items ++ part.now) }
+        ensures named { IfErr result NamesNone }
+    {
         put(&mut self.answers, part)
     }
 
     /// A line of the log: what comes before the text, and the text.
-    pub(crate) fn log(&mut self, before: &[u8], text: &[u8]) -> Result<(), RunFault> {
+    pub(crate) fn log(&mut self, before: &[u8], text: &[u8]) -> Result<(), RunFault>
+        ensures named { IfErr result NamesNone }
+    {
         self.logged = self.next_number()?;
         put(&mut self.log, before)?;
         put(&mut self.log, text)?;
@@ -67,7 +82,9 @@ impl Output {
         &mut self,
         writer: &mut W,
         log: &mut L,
-    ) -> Result<(), RunFault> {
+    ) -> Result<(), RunFault>
+        ensures named { IfErr result NamesNone }
+    {
         let logged = write_out(log, &mut self.log);
         write_out(writer, &mut self.answers)?;
         logged
@@ -78,7 +95,9 @@ impl Output {
         &mut self,
         writer: &mut W,
         log: &mut L,
-    ) -> Result<(), RunFault> {
+    ) -> Result<(), RunFault>
+        ensures named { IfErr result NamesNone }
+    {
         if self.answers.len() < MUCH && self.log.len() < MUCH {
             return Ok(());
         }

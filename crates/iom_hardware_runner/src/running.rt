@@ -1,9 +1,11 @@
 // A script, from its bytes to the bytes of its answers.
-ghost use Rattle.std.specs.Prelude.{◌≡◌, ◌<◌, ◌≤◌, length, take, IfOk, IfSome, OnOk};
+ghost use Rattle.std.specs.Prelude.{◌≡◌, ◌<◌, ◌≤◌, length, take, IfOk, IfErr, IfSome, OnOk};
 ghost use Rattle.std.specs.Io.{ReadsAtMost};
-ghost use Rattle.std.specs.Io.KnownBytes.{Consumes, IsAtEnd};
+ghost use Rattle.std.specs.Io.KnownBytes.{Consumes, IsAtEnd, Keeps};
 ghost use Rattle.iom_script_reading.specs.Reading.{ConsumesAtMost};
-ghost use Rattle.iom_hardware_runner.specs.Runs.{ScriptRuns};
+ghost use Rattle.iom_hardware_runner.specs.Parts.{NamesNone};
+ghost use Rattle.iom_hardware_runner.specs.Runs.{ScriptRuns, NamesLine, IsFirstBadSessionLine};
+ghost use Rattle.iom_hardware_script.specs.Grammar.{IsFirstBadHardwareLine};
 
 use crate::arriving::Arriving;
 use crate::faults::RunFault;
@@ -24,6 +26,8 @@ pub fn run_bytes<W: Write, L: Write>(
     log: &mut L,
 ) -> Result<bool, RunFault>
     ensures ran { IfOk result (ScriptRuns bytes.now) }
+    ensures bad { IfErr result (NamesLine (IsFirstBadHardwareLine bytes.now)) }
+    ensures unwritten { IfErr result (NamesLine (λ number. Keeps (W.contents writer.old) (W.contents writer.new) × Keeps (L.contents log.old) (L.contents log.new))) }
     ensures short { OnOk result (length bytes.now ≤ 1048576) }
 {
     // What it says is asked again line by line, as in a live session: so both answer alike.
@@ -41,6 +45,8 @@ pub fn run<R: Read, W: Write, L: Write>(
     log: &mut L,
 ) -> Result<bool, RunFault>
     ensures ran { IfOk result (λ wrong. IfSome (R.remaining reader.old) (λ input. ScriptRuns input wrong)) }
+    ensures bad { IfErr result (λ fault. IfSome (R.remaining reader.old) (λ input. NamesLine (IsFirstBadHardwareLine input) fault)) }
+    ensures unwritten { IfErr result (NamesLine (λ number. Keeps (W.contents writer.old) (W.contents writer.new) × Keeps (L.contents log.old) (L.contents log.new))) }
     ensures consumed { ConsumesAtMost 1048577 (R.remaining reader.old) (R.remaining reader.new) }
 {
     let bytes = read_script(alloc, reader)?;
@@ -49,8 +55,11 @@ pub fn run<R: Read, W: Write, L: Write>(
 
 /// One read: how many bytes came, which stand at the front of the chunk then; none at the end alone.
 fn read_piece<R: Read>(reader: &mut R, chunk: &mut [u8]) -> Result<usize, RunFault>
-    requires { 0 < length chunk.old }
+    requires some { 0 < length chunk.old }
+    requires small { length chunk.old ≤ 65536 }
     ensures bound { ReadsAtMost result chunk.new }
+    ensures few { IfOk result (λ count. length (take count chunk.new) ≤ 65536) }
+    ensures named { IfErr result NamesNone }
     ensures taken { IfOk result (λ count. Consumes (R.remaining reader.old) (R.remaining reader.new) (take count chunk.new)
         × (count ≡ 0 → IsAtEnd (R.remaining reader.new))) }
 {
@@ -69,6 +78,7 @@ pub fn run_live<R: Read, W: Write, L: Write>(
     log: &mut L,
 ) -> Result<bool, RunFault>
     ensures ran { IfOk result (λ wrong. IfSome (R.remaining reader.old) (λ input. ScriptRuns input wrong)) }
+    ensures bad { IfErr result (λ fault. IfSome (R.remaining reader.old) (λ input. NamesLine (IsFirstBadSessionLine input) fault)) }
 {
     let mut chunk = [0u8; READ_SIZE];
     let mut arriving = Arriving::new(alloc);

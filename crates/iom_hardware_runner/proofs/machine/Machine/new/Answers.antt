@@ -1,8 +1,8 @@
 use Rattle.iom_hardware_runner.proofs.RunLemmas.{came_by_nothing}
 use Rattle.iom_hardware_runner.proofs.machine.Machine.new.Goals as goal
 
-pub returns : goal.returns
-returns c =
+pub returns-clause-begins : goal.returns-clause-begins
+returns-clause-begins c =
     let teller = c.in-Ok-new.ensures in (
       c.in-Some.frames,
       (c.setup_of.ensures c.in-Some.frames).0 c.in-Some.is,
