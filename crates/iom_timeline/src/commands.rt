@@ -144,8 +144,10 @@ impl Commands {
     /// How many commands are taken with the next one of this name: 1 but where the trace leaves fetches out. 0 where none
     /// of this name waits.
     pub(crate) fn count_to(&self, name: CommandName) -> usize {
-        let waiting = self.queued.get(self.head..).unwrap_or(&[]);
-        for (before, command) in waiting.iter().take(MAX_WAITING).enumerate() {
+        for before in 0..MAX_WAITING {
+            let Some(command) = self.queued.get(self.head.saturating_add(before)) else {
+                return 0;
+            };
             if command.name() == name {
                 return before.saturating_add(1);
             }

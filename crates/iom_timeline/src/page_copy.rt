@@ -5,7 +5,7 @@ use crate::period::{NEVER, Period};
 use crate::timeline::{CopyKind, Place};
 
 /// A copy of a translation, for as long as it was there.
-#[derive(Clone, Copy, PartialEq, Eq, Debug)]
+#[derive(Clone, Copy)]
 pub struct PageCopy {
     pub kind: CopyKind,
     pub place: Place,

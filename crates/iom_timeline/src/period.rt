@@ -4,7 +4,7 @@ ghost use Rattle.std.specs.Prelude.{◌≡◌, ◌≤◌};
 pub const NEVER: u64 = u64::MAX;
 
 /// The time from one line to another. It never ends before it begins.
-#[derive(Clone, Copy, PartialEq, Eq, Debug)]
+#[derive(Clone, Copy)]
 pub struct Period {
     pub from: u64,
     /// The line at which it ended, or [`NEVER`].

@@ -6,7 +6,7 @@ use iom_base::{DeviceId, GrantRights};
 
 /// The time from a grant of a page to the confirmation of its release: first the page is held, and then it lingers.
 /// Neither ends before it begins, and the page lingers from where it was held last.
-#[derive(Clone, Copy, PartialEq, Eq, Debug)]
+#[derive(Clone, Copy)]
 pub struct Stay {
     /// The lane where it is, as a place in the timeline's list.
     pub lane: usize,

@@ -5,7 +5,7 @@ use crate::stay::Stay;
 use iom_base::{AccessKind, Cause, DeviceId};
 
 /// A page of a device on a frame. Its stays follow one another.
-#[derive(Clone, Copy, PartialEq, Eq, Hash, Debug)]
+#[derive(Clone, Copy, PartialEq, Eq, Hash)]
 pub struct Lane {
     pub device: DeviceId,
     pub page: u64,
@@ -13,7 +13,7 @@ pub struct Lane {
 }
 
 /// To what something belongs.
-#[derive(Clone, Copy, PartialEq, Eq, Debug)]
+#[derive(Clone, Copy, PartialEq, Eq)]
 pub enum Place {
     /// A page that was granted: the lane at this place of the timeline's list.
     Lane(usize),
@@ -25,7 +25,7 @@ pub enum Place {
 }
 
 /// What keeps a frame from being free beside the grant itself.
-#[derive(Clone, Copy, PartialEq, Eq, Debug)]
+#[derive(Clone, Copy, PartialEq, Eq)]
 pub enum CopyKind {
     /// The IOMMU may remember the page.
     CachedTranslation,
@@ -38,14 +38,14 @@ pub enum CopyKind {
 }
 
 /// The time in which a device is quarantined: from the quarantine to the revival, at a page that lingered, or at the device's others.
-#[derive(Clone, Copy, PartialEq, Eq, Debug)]
+#[derive(Clone, Copy)]
 pub struct Quarantine {
     pub place: Place,
     pub period: Period,
 }
 
 /// What the fences of the command queue wait for.
-#[derive(Clone, Copy, PartialEq, Eq, Debug)]
+#[derive(Clone, Copy, PartialEq, Eq)]
 pub enum WaitCause {
     /// Accesses that were accepted before, of any device.
     Accesses,
@@ -56,14 +56,14 @@ pub enum WaitCause {
 }
 
 /// The time in which the command queue waits, as far as fetches show it.
-#[derive(Clone, Copy, PartialEq, Eq, Debug)]
+#[derive(Clone, Copy)]
 pub struct Wait {
     pub cause: WaitCause,
     pub period: Period,
 }
 
 /// What happened at a line.
-#[derive(Clone, Copy, PartialEq, Eq, Debug)]
+#[derive(Clone, Copy)]
 pub enum MarkKind {
     /// An access was accepted.
     Accepted(AccessKind),
@@ -86,7 +86,7 @@ pub enum MarkKind {
     HandedOff,
 }
 
-#[derive(Clone, Copy, PartialEq, Eq, Debug)]
+#[derive(Clone, Copy)]
 pub struct Mark {
     pub line: u64,
     pub place: Place,
@@ -94,7 +94,7 @@ pub struct Mark {
 }
 
 /// A line of the trace, by where its bytes stand in the timeline's text.
-#[derive(Clone, Copy, PartialEq, Eq, Debug)]
+#[derive(Clone, Copy)]
 pub struct LineText {
     pub line: u64,
     pub start: usize,
