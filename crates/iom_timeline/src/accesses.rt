@@ -1,7 +1,7 @@
 // What devices do of themselves.
 use crate::devices::Flight;
 use crate::follower::{Follower, Shown};
-use crate::messages::Message;
+use crate::messages::Said;
 use crate::timeline::{CopyKind, MarkKind, Place};
 use iom_base::{AccessKind, DeviceId, DeviceKind, PAGE_SIZE};
 use iom_machine::{BlockStep, Event, Outcome};
@@ -65,13 +65,7 @@ impl Follower {
     fn accept(&mut self, asked: Asked) -> Result<(), AllocError> {
         let lane = self.lane_at(asked.device, asked.page, asked.frame);
         let place = self.place_at(asked.device, lane);
-        self.mark(
-            place,
-            match asked.kind {
-                Some(kind) => MarkKind::Accepted(kind),
-                None => MarkKind::AcceptedStep,
-            },
-        )?;
+        self.mark(place, MarkKind::of_accepted(asked.kind))?;
         if asked.is_translated {
             self.remember(asked.device, lane)?;
         }
@@ -118,20 +112,20 @@ impl Follower {
         shown: Shown<'_>,
     ) -> Result<(), AllocError> {
         if let Outcome::Stepped(BlockStep::Asked) = outcome {
-            return self.messages.send(Message::Question {
-                device: id,
-                page: None,
-                is_stale: false,
-            });
+            return self.messages.say(id, Said::Question(None));
         }
         let is_translated = match self.devices.get(id) {
             Some(device) => device.kind == DeviceKind::Block,
             None => false,
         };
+        let (page, kind) = match shown.began {
+            Some(access) => (Some(access.address / PAGE_SIZE), Some(access.kind)),
+            None => (None, None),
+        };
         let asked = Asked {
             device: id,
-            page: shown.began.map(|access| access.address / PAGE_SIZE),
-            kind: shown.began.map(|access| access.kind),
+            page,
+            kind,
             frame: shown.on,
             is_translated,
         };

@@ -89,9 +89,14 @@ impl Device {
         }
     }
 
+    /// Its own cache hasn't the lane's page any more.
+    pub(crate) fn drop_kept(&mut self, lane: usize) {
+        self.kept.retain(|other| *other != lane);
+    }
+
     /// Its own cache keeps the lane's page, as the newest. The lane whose page goes out for that, if one does.
     pub(crate) fn keep(&mut self, lane: usize) -> Result<Option<usize>, AllocError> {
-        self.kept.retain(|other| *other != lane);
+        self.drop_kept(lane);
         let gone = if self.kept.len() >= MAX_KEPT {
             Some(self.kept.remove(0))
         } else {

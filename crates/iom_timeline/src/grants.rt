@@ -2,7 +2,7 @@
 use crate::commands::{Command, Scope};
 use crate::devices::{Device, Standing};
 use crate::follower::{Follower, Pending, Waiting};
-use crate::messages::Message;
+use crate::messages::Said;
 use crate::period::{NEVER, Period};
 use crate::stay::Stay;
 use crate::timeline::{Lane, MarkKind, Place, Quarantine};
@@ -330,7 +330,7 @@ impl Follower {
             }
             Command::AskDevice { device, scope } => {
                 self.open_requests = self.open_requests.saturating_add(1);
-                self.messages.send(Message::Request { device, scope })
+                self.messages.say(device, Said::Request(scope))
             }
             Command::Fence => Ok(()),
         }

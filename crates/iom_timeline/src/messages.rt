@@ -5,31 +5,38 @@ use iom_base::DeviceId;
 use iom_fabric::MAX_MESSAGES;
 use std::alloc::{AllocError, Global};
 
-/// A message, as far as the trace shows it.
+/// What a message says, as far as the trace shows it.
 #[derive(Clone, Copy)]
-pub(crate) enum Message {
+pub(crate) enum Said {
     /// A device asks for a page. A block device doesn't say which.
-    Question {
-        device: DeviceId,
-        page: Option<u64>,
-        is_stale: bool,
-    },
+    Question(Option<u64>),
     /// It is answered: with the page of this lane, if it is one that was granted, and as this copy.
     Answer {
-        device: DeviceId,
         lane: Option<usize>,
         copy: Option<usize>,
-        is_stale: bool,
     },
     /// A device is asked to forget.
-    Request {
-        device: DeviceId,
-        scope: Scope,
-    },
+    Request(Scope),
     /// A device says that it did.
-    Done {
-        device: DeviceId,
-    },
+    Done,
+}
+
+/// A message to a device, or from it. One is stale that the device won't keep, or keep the answer to.
+#[derive(Clone, Copy)]
+pub(crate) struct Message {
+    pub(crate) device: DeviceId,
+    pub(crate) is_stale: bool,
+    pub(crate) said: Said,
+}
+
+impl Message {
+    pub(crate) fn new(device: DeviceId, said: Said) -> Message {
+        Message {
+            device,
+            is_stale: false,
+            said,
+        }
+    }
 }
 
 /// The messages: the one that was sent last stands last.
@@ -53,6 +60,11 @@ impl Messages {
         Ok(())
     }
 
+    /// The device says that, or is told it.
+    pub(crate) fn say(&mut self, device: DeviceId, said: Said) -> Result<(), AllocError> {
+        self.send(Message::new(device, said))
+    }
+
     /// The message at the place.
     pub(crate) fn at(&self, place: u64) -> Option<Message> {
         let place = usize::try_from(place).ok()?;
@@ -63,24 +75,16 @@ impl Messages {
     /// from this line on.
     pub(crate) fn spoil(&mut self, id: DeviceId, copies: &mut Copies, line: u64) {
         for message in self.list.iter_mut() {
-            match message {
-                Message::Question {
-                    device,
-                    is_stale,
-                    ..
-                } if *device == id => *is_stale = true,
-                Message::Answer {
-                    device,
-                    copy,
-                    is_stale,
-                    ..
-                } if *device == id => {
-                    *is_stale = true;
-                    if let Some(copy) = copy {
-                        copies.spoil(*copy, line);
-                    }
-                }
-                _ => {}
+            if message.device != id {
+                continue;
+            }
+            message.is_stale = true;
+            if let Said::Answer {
+                copy: Some(copy),
+                ..
+            } = message.said
+            {
+                copies.spoil(copy, line);
             }
         }
     }

@@ -86,6 +86,16 @@ pub enum MarkKind {
     HandedOff,
 }
 
+impl MarkKind {
+    /// That of an access that was accepted, of this kind where that is known.
+    pub(crate) fn of_accepted(kind: Option<AccessKind>) -> MarkKind {
+        match kind {
+            Some(kind) => MarkKind::Accepted(kind),
+            None => MarkKind::AcceptedStep,
+        }
+    }
+}
+
 #[derive(Clone, Copy)]
 pub struct Mark {
     pub line: u64,

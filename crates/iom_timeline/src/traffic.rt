@@ -1,7 +1,7 @@
 // The messages between devices and the IOMMU, and the devices' own caches.
 use crate::commands::Scope;
 use crate::follower::Follower;
-use crate::messages::Message;
+use crate::messages::{Message, Said};
 use crate::timeline::{CopyKind, MarkKind, Place};
 use iom_base::DeviceId;
 use iom_fabric::Translation;
@@ -17,14 +17,11 @@ impl Follower {
     ) -> Result<(), AllocError> {
         match (event, outcome) {
             (Event::Ask { device, page }, Outcome::Sent) => {
-                self.messages.send(Message::Question {
-                    device: *device,
-                    page: Some(page.number()),
-                    is_stale: false,
-                })
+                let page = Some(page.number());
+                self.messages.say(*device, Said::Question(page))
             }
             (Event::Forge { device, .. }, Outcome::Sent) => {
-                self.messages.send(Message::Done { device: *device })
+                self.messages.say(*device, Said::Done)
             }
             (Event::Reset { device } | Event::Queue { device, .. }, Outcome::Done) => {
                 self.reset(*device);
@@ -84,12 +81,12 @@ impl Follower {
         message: Message,
         translation: Translation,
     ) -> Result<(), AllocError> {
-        let Message::Question {
+        let Message {
             device,
-            page,
             is_stale,
-        } = message
-        else {
+            said,
+        } = message;
+        let Said::Question(page) = said else {
             return Ok(());
         };
         match translation {
@@ -102,11 +99,14 @@ impl Follower {
                 let lane = self.lane_at(device, page, None);
                 let place = self.place_at(device, lane);
                 self.mark(place, MarkKind::Fault(cause))?;
-                self.messages.send(Message::Answer {
-                    device,
+                let said = Said::Answer {
                     lane: None,
                     copy: None,
+                };
+                self.messages.send(Message {
+                    device,
                     is_stale,
+                    said,
                 })
             }
         }
@@ -133,23 +133,21 @@ impl Follower {
         if is_stale || self.is_barred(id) {
             self.copies.spoil(copy, line);
         }
-        self.messages.send(Message::Answer {
-            device: id,
+        let said = Said::Answer {
             lane,
             copy: Some(copy),
+        };
+        self.messages.send(Message {
+            device: id,
             is_stale,
+            said,
         })
     }
 
     /// The device keeps what it is answered.
     fn keep(&mut self, message: Message) -> Result<(), AllocError> {
-        let Message::Answer {
-            device: id,
-            lane,
-            copy,
-            ..
-        } = message
-        else {
+        let id = message.device;
+        let Said::Answer { lane, copy } = message.said else {
             return Ok(());
         };
         let line = self.line;
@@ -173,7 +171,8 @@ impl Follower {
 
     /// The device drops what it is asked to drop, and says so.
     fn drop_pages(&mut self, message: Message) -> Result<(), AllocError> {
-        let Message::Request { device, scope } = message else {
+        let device = message.device;
+        let Said::Request(scope) = message.said else {
             return Ok(());
         };
         let line = self.line;
@@ -183,23 +182,24 @@ impl Follower {
                 if let Some(lane) = self.lane_at(device, Some(page), None) {
                     self.copies.drop_kept(lane, line);
                     if let Some(device) = self.devices.get_mut(device) {
-                        device.kept.retain(|other| *other != lane);
+                        device.drop_kept(lane);
                     }
                 }
                 self.messages.spoil(device, &mut self.copies, line);
             }
         }
-        self.messages.send(Message::Done { device })
+        self.messages.say(device, Said::Done)
     }
 
     /// The message at the place is gone.
     pub(crate) fn lose(&mut self, place: u64) {
-        if let Some(
-            Message::Answer {
-                copy: Some(copy),
-                ..
-            },
-        ) = self.messages.take(place)
+        let Some(message) = self.messages.take(place) else {
+            return;
+        };
+        if let Said::Answer {
+            copy: Some(copy),
+            ..
+        } = message.said
         {
             let line = self.line;
             self.copies.end(copy, line);
@@ -208,17 +208,14 @@ impl Follower {
 
     /// Where a message stands in the picture.
     fn place_of_message(&self, message: Message) -> Place {
-        match message {
-            Message::Question { device, page, .. } => {
-                self.place_at(device, self.lane_at(device, page, None))
-            }
-            Message::Answer { device, lane, .. } => self.place_at(device, lane),
-            Message::Request {
-                device,
-                scope: Scope::Page(page),
-            } => self.place_at(device, self.lane_at(device, Some(page), None)),
-            Message::Request { device, .. } | Message::Done { device } => Place::Device(device),
-        }
+        let device = message.device;
+        let lane = match message.said {
+            Said::Question(page) => self.lane_at(device, page, None),
+            Said::Answer { lane, .. } => lane,
+            Said::Request(Scope::Page(page)) => self.lane_at(device, Some(page), None),
+            Said::Request(Scope::Everything) | Said::Done => None,
+        };
+        self.place_at(device, lane)
     }
 
     /// The message at the place doesn't arrive.
@@ -233,17 +230,15 @@ impl Follower {
 
     /// A copy of the message at the place is sent.
     pub(crate) fn repeat(&mut self, place: u64) -> Result<(), AllocError> {
-        match self.messages.at(place) {
-            None => Ok(()),
-            Some(
-                Message::Answer {
-                    device,
-                    lane,
-                    copy: Some(_),
-                    is_stale,
-                },
-            ) => self.send_answer(device, lane, is_stale),
-            Some(message) => self.messages.send(message),
+        let Some(message) = self.messages.at(place) else {
+            return Ok(());
+        };
+        match message.said {
+            Said::Answer {
+                lane,
+                copy: Some(_),
+            } => self.send_answer(message.device, lane, message.is_stale),
+            _ => self.messages.send(message),
         }
     }
 }
