@@ -2,7 +2,7 @@
 use crate::layout::Layout;
 use crate::scale::Scale;
 use crate::symbol::Symbol;
-use iom_svg::Svg;
+use iom_svg::{Part, Svg};
 use iom_timeline::{LineText, MarkKind, Timeline};
 use std::alloc::AllocError;
 
@@ -53,8 +53,7 @@ fn append_number(svg: &mut Svg, layout: &Layout, line: u64, top: u64) -> Result<
         top,
         " text-anchor=\"middle\" fill=\"#555555\" font-size=\"11\"",
     )?;
-    svg.number(line)?;
-    svg.markup("</text>\n")
+    svg.append(&[Part::Number(line), Part::Markup("</text>\n")])
 }
 
 /// The ground of each fold, with the number of its lines above it.
@@ -74,8 +73,7 @@ pub(crate) fn append_folds(svg: &mut Svg, layout: &Layout, top: u64) -> Result<(
             top,
             " text-anchor=\"middle\" fill=\"#555555\" font-size=\"11\"",
         )?;
-        svg.number(fold.count())?;
-        svg.markup(" lines</text>\n")?;
+        svg.append(&[Part::Number(fold.count()), Part::Markup(" lines</text>\n")])?;
     }
     Ok(())
 }
@@ -118,8 +116,8 @@ fn append_cut(svg: &mut Svg, text: &[u8], most: usize) -> Result<(), AllocError>
     if text.len() <= most {
         return svg.text(text);
     }
-    svg.text(text.get(..most).unwrap_or(&[]))?;
-    svg.markup("..")
+    let shown = text.get(..most).unwrap_or(&[]);
+    svg.append(&[Part::Text(shown), Part::Markup("..")])
 }
 
 /// Where the answer of a line begins, with the arrow before it; at its end, where it has none.
@@ -150,13 +148,15 @@ fn append_line_words(
     timeline: &Timeline,
     line: LineText,
 ) -> Result<(), AllocError> {
-    svg.markup("<text transform=\"translate(")?;
-    svg.number(layout.scale.middle(line.line).saturating_sub(3))?;
-    svg.markup(" ")?;
-    svg.number(layout.bottom.saturating_add(14))?;
-    svg.markup(")rotate(60)\">")?;
-    svg.number(line.line)?;
-    svg.markup(" ")?;
+    svg.append(&[
+        Part::Markup("<text transform=\"translate("),
+        Part::Number(layout.scale.middle(line.line).saturating_sub(3)),
+        Part::Markup(" "),
+        Part::Number(layout.bottom.saturating_add(14)),
+        Part::Markup(")rotate(60)\">"),
+        Part::Number(line.line),
+        Part::Markup(" "),
+    ])?;
     append_shown(svg, timeline.text_of(line))?;
     svg.markup("</text>\n")
 }

@@ -3,7 +3,7 @@ use crate::layout::Layout;
 use crate::rows::{BAR, THIN};
 use crate::symbol::Symbol;
 use iom_base::GrantRights;
-use iom_svg::Svg;
+use iom_svg::{Part, Svg};
 use iom_timeline::{NEVER, PageCopy, Period, Place, Stay, Timeline};
 use std::alloc::AllocError;
 
@@ -12,13 +12,19 @@ const ROOM_FOR_RIGHTS: u64 = 22;
 
 /// The lines from one to another: the tip of a bar.
 fn append_lines(svg: &mut Svg, period: Period) -> Result<(), AllocError> {
-    svg.markup(" from line ")?;
-    svg.number(period.from)?;
     if period.until == NEVER {
-        return svg.markup(" on");
+        return svg.append(&[
+            Part::Markup(" from line "),
+            Part::Number(period.from),
+            Part::Markup(" on"),
+        ]);
     }
-    svg.markup(" to ")?;
-    svg.number(period.until)
+    svg.append(&[
+        Part::Markup(" from line "),
+        Part::Number(period.from),
+        Part::Markup(" to "),
+        Part::Number(period.until),
+    ])
 }
 
 /// A page of a device on a frame: of the tip of a bar.
@@ -32,17 +38,16 @@ pub(crate) fn append_place(
             let Some(lane) = timeline.lanes.get(lane) else {
                 return Ok(());
             };
-            svg.device(lane.device)?;
-            svg.markup(" page ")?;
-            svg.number(lane.page)?;
-            svg.markup(", frame ")?;
-            svg.number(lane.frame)
+            svg.append(&[
+                Part::Device(lane.device),
+                Part::Markup(" page "),
+                Part::Number(lane.page),
+                Part::Markup(", frame "),
+                Part::Number(lane.frame),
+            ])
         }
         Place::Device(id) => svg.device(id),
-        Place::Frame(frame) => {
-            svg.markup("frame ")?;
-            svg.number(frame)
-        }
+        Place::Frame(frame) => svg.append(&[Part::Markup("frame "), Part::Number(frame)]),
         Place::Driver => svg.markup("driver and IOMMU"),
     }
 }
@@ -56,7 +61,7 @@ fn letters(rights: GrantRights) -> &'static str {
 }
 
 /// A bar, with what its tip says.
-#[derive(Clone, Copy, PartialEq, Eq, Debug)]
+#[derive(Clone, Copy)]
 pub(crate) struct Bar {
     pub(crate) place: Place,
     pub(crate) period: Period,
@@ -68,28 +73,31 @@ pub(crate) struct Bar {
     pub(crate) free_from: Option<u64>,
 }
 
+/// What the tip of a bar says.
+fn append_tip(svg: &mut Svg, timeline: &Timeline, bar: &Bar) -> Result<(), AllocError> {
+    append_place(svg, timeline, bar.place)?;
+    svg.append(&[Part::Markup(": "), Part::Markup(bar.symbol.words())])?;
+    if let Some(ticket) = bar.ticket {
+        let ticket = u64::from(ticket);
+        svg.append(&[Part::Markup(" under ticket "), Part::Number(ticket)])?;
+    }
+    append_lines(svg, bar.period)?;
+    match bar.free_from {
+        None => Ok(()),
+        Some(line) => svg.append(&[Part::Markup(", frame free from line "), Part::Number(line)]),
+    }
+}
+
 pub(crate) fn append_bar(
     svg: &mut Svg,
     layout: &Layout,
     timeline: &Timeline,
-    bar: Bar,
+    bar: &Bar,
 ) -> Result<(), AllocError> {
     let (left, width) = layout.scale.bar(bar.period);
     svg.rectangle(left, bar.top, width, bar.height, bar.symbol.fill())?;
-    svg.markup(bar.symbol.outline())?;
-    svg.markup("><title>")?;
-    append_place(svg, timeline, bar.place)?;
-    svg.markup(": ")?;
-    svg.markup(bar.symbol.words())?;
-    if let Some(ticket) = bar.ticket {
-        svg.markup(" under ticket ")?;
-        svg.number(u64::from(ticket))?;
-    }
-    append_lines(svg, bar.period)?;
-    if let Some(line) = bar.free_from {
-        svg.markup(", frame free from line ")?;
-        svg.number(line)?;
-    }
+    svg.append(&[Part::Markup(bar.symbol.outline()), Part::Markup("><title>")])?;
+    append_tip(svg, timeline, bar)?;
     svg.markup("</title></rect>\n")
 }
 
@@ -110,8 +118,7 @@ fn append_rights(
         top.saturating_add(11),
         " font-size=\"10\" fill=\"#ffffff\"",
     )?;
-    svg.markup(letters(rights))?;
-    svg.markup("</text>\n")
+    svg.append(&[Part::Markup(letters(rights)), Part::Markup("</text>\n")])
 }
 
 /// The width of a ticket's number behind its letter.
@@ -150,9 +157,11 @@ fn append_ticket(
         top.saturating_add(11),
         " font-size=\"10\"",
     )?;
-    svg.markup("T")?;
-    svg.number(u64::from(ticket))?;
-    svg.markup("</text>\n")
+    svg.append(&[
+        Part::Markup("T"),
+        Part::Number(u64::from(ticket)),
+        Part::Markup("</text>\n"),
+    ])
 }
 
 /// The width of the words behind a bar, and of their short form.
@@ -180,12 +189,14 @@ fn append_free(
         top.saturating_add(11),
         " font-size=\"11\" font-weight=\"bold\" fill=\"#005a43\"",
     )?;
-    svg.markup("free")?;
-    if room >= FREE_ROOM {
-        svg.markup(" from ")?;
-        svg.number(line)?;
+    if room < FREE_ROOM {
+        return svg.markup("free</text>\n");
     }
-    svg.markup("</text>\n")
+    svg.append(&[
+        Part::Markup("free from "),
+        Part::Number(line),
+        Part::Markup("</text>\n"),
+    ])
 }
 
 /// That the frame isn't free yet, behind the bar of a page that lingers to the last line.
@@ -235,31 +246,39 @@ pub(crate) fn append_ends(
     Ok(())
 }
 
-/// The bars of a stay.
-fn append_stay(
+/// The bar of a page as long as it is held.
+fn append_held(
     svg: &mut Svg,
     layout: &Layout,
     timeline: &Timeline,
     stay: &Stay,
+    top: u64,
 ) -> Result<(), AllocError> {
-    let place = Place::Lane(stay.lane);
-    let Some(row) = layout.row(place) else {
+    let period = stay.held();
+    if !layout.choice.has_period(period) {
         return Ok(());
-    };
-    let held = stay.held();
-    if layout.choice.has_period(held) {
-        let bar = Bar {
-            place,
-            period: held,
-            top: row.top,
-            height: BAR,
-            symbol: Symbol::Held,
-            ticket: None,
-            free_from: None,
-        };
-        append_bar(svg, layout, timeline, bar)?;
-        append_rights(svg, layout, held, row.top, stay.rights)?;
     }
+    let bar = Bar {
+        place: Place::Lane(stay.lane),
+        period,
+        top,
+        height: BAR,
+        symbol: Symbol::Held,
+        ticket: None,
+        free_from: None,
+    };
+    append_bar(svg, layout, timeline, &bar)?;
+    append_rights(svg, layout, period, top, stay.rights)
+}
+
+/// The bar of a page as long as it lingers.
+fn append_lingering(
+    svg: &mut Svg,
+    layout: &Layout,
+    timeline: &Timeline,
+    stay: &Stay,
+    top: u64,
+) -> Result<(), AllocError> {
     let Some(period) = stay.lingering() else {
         return Ok(());
     };
@@ -267,19 +286,33 @@ fn append_stay(
         return Ok(());
     }
     let bar = Bar {
-        place,
+        place: Place::Lane(stay.lane),
         period,
-        top: row.top,
+        top,
         height: BAR,
         symbol: Symbol::Lingering,
         ticket: stay.ticket,
         free_from: stay.free_from(),
     };
-    append_bar(svg, layout, timeline, bar)?;
+    append_bar(svg, layout, timeline, &bar)?;
     match stay.ticket {
         None => Ok(()),
-        Some(ticket) => append_ticket(svg, layout, period, row.top, ticket),
+        Some(ticket) => append_ticket(svg, layout, period, top, ticket),
     }
+}
+
+/// The bars of a stay.
+fn append_stay(
+    svg: &mut Svg,
+    layout: &Layout,
+    timeline: &Timeline,
+    stay: &Stay,
+) -> Result<(), AllocError> {
+    let Some(row) = layout.row(Place::Lane(stay.lane)) else {
+        return Ok(());
+    };
+    append_held(svg, layout, timeline, stay, row.top)?;
+    append_lingering(svg, layout, timeline, stay, row.top)
 }
 
 /// The bars of all stays that are chosen.
@@ -321,7 +354,7 @@ fn append_thin(
         ticket: None,
         free_from: None,
     };
-    append_bar(svg, layout, timeline, bar)
+    append_bar(svg, layout, timeline, &bar)
 }
 
 /// The thin bars of a copy: up to where it is of use, and from there on.

@@ -3,7 +3,7 @@ use iom_base::DeviceId;
 use iom_timeline::{Lane, Period, Place, Timeline};
 
 /// What is to be drawn: the lines from one to another, of one frame or of all, of one device or of all.
-#[derive(Clone, Copy, PartialEq, Eq, Debug)]
+#[derive(Clone, Copy)]
 pub struct Choice {
     pub from: u64,
     pub to: u64,

@@ -124,13 +124,17 @@ impl Changes {
         timeline: &Timeline,
     ) -> Result<Changes, AllocError> {
         let mut changes = Changes::none(alloc, choice)?;
-        changes.note_stays(choice, timeline);
-        changes.note_copies(choice, timeline);
-        changes.note_marks(choice, timeline);
-        changes.note_spans(choice, timeline);
-        changes.note_waits(timeline);
-        changes.count_distances();
+        changes.note_all(choice, timeline);
         Ok(changes)
+    }
+
+    fn note_all(&mut self, choice: Choice, timeline: &Timeline) {
+        self.note_stays(choice, timeline);
+        self.note_copies(choice, timeline);
+        self.note_marks(choice, timeline);
+        self.note_spans(choice, timeline);
+        self.note_waits(timeline);
+        self.count_distances();
     }
 
     /// For each line, whether it is folded.

@@ -1,7 +1,7 @@
 // The names of the rows.
 use crate::layout::Layout;
 use crate::rows::Row;
-use iom_svg::Svg;
+use iom_svg::{Part, Svg};
 use iom_timeline::Timeline;
 use std::alloc::AllocError;
 
@@ -21,10 +21,12 @@ fn append_lanes(svg: &mut Svg, layout: &Layout, timeline: &Timeline) -> Result<(
             continue;
         }
         svg.begin_text(INNER, base_of(*row), "")?;
-        svg.device(lane.device)?;
-        svg.markup(" page ")?;
-        svg.number(lane.page)?;
-        svg.markup("</text>\n")?;
+        svg.append(&[
+            Part::Device(lane.device),
+            Part::Markup(" page "),
+            Part::Number(lane.page),
+            Part::Markup("</text>\n"),
+        ])?;
     }
     Ok(())
 }
@@ -34,9 +36,11 @@ fn append_frames(svg: &mut Svg, layout: &Layout) -> Result<(), AllocError> {
     for (frame, top) in &layout.frames {
         svg.line((OUTER, *top), (end, *top), "stroke=\"#cccccc\"")?;
         svg.begin_text(OUTER, top.saturating_add(15), " font-weight=\"bold\"")?;
-        svg.markup("frame ")?;
-        svg.number(*frame)?;
-        svg.markup("</text>\n")?;
+        svg.append(&[
+            Part::Markup("frame "),
+            Part::Number(*frame),
+            Part::Markup("</text>\n"),
+        ])?;
     }
     Ok(())
 }
@@ -47,8 +51,7 @@ fn append_devices(svg: &mut Svg, layout: &Layout) -> Result<(), AllocError> {
         let top = row.top.saturating_sub(4);
         svg.line((OUTER, top), (end, top), "stroke=\"#cccccc\"")?;
         svg.begin_text(OUTER, base_of(*row), "")?;
-        svg.device(*id)?;
-        svg.markup(" elsewhere</text>\n")?;
+        svg.append(&[Part::Device(*id), Part::Markup(" elsewhere</text>\n")])?;
     }
     Ok(())
 }

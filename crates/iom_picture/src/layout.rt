@@ -33,6 +33,22 @@ pub(crate) struct Layout {
     pub(crate) bottom: u64,
 }
 
+/// The columns of what is chosen.
+fn scale_of(alloc: Global, choice: Choice, timeline: &Timeline) -> Result<Scale, AllocError> {
+    let changes = Changes::of(alloc, choice, timeline)?;
+    let folded = changes.into_folded(alloc)?;
+    Scale::new(alloc, choice, &folded)
+}
+
+/// So many rows, none of which is shown.
+fn hidden_rows(alloc: Global, count: usize) -> Result<Vec<Row>, AllocError> {
+    let mut rows = Vec::new(alloc);
+    for _row in 0..count {
+        rows.push(Row::hidden())?;
+    }
+    Ok(rows)
+}
+
 impl Layout {
     /// The layout of what is chosen of the timeline. No row has its place yet.
     pub(crate) fn new(
@@ -40,31 +56,34 @@ impl Layout {
         choice: Choice,
         timeline: &Timeline,
     ) -> Result<Layout, AllocError> {
-        let changes = Changes::of(alloc, choice, timeline)?;
-        let folded = changes.into_folded(alloc)?;
+        let scale = scale_of(alloc, choice, timeline)?;
+        let lanes = hidden_rows(alloc, timeline.lanes.len())?;
         let mut layout = Layout {
             choice,
-            scale: Scale::new(alloc, choice, &folded)?,
+            scale,
             driver: Row::hidden(),
             frames: IndexMap::new(alloc),
-            lanes: Vec::new(alloc),
+            lanes,
             tracks: Vec::new(alloc),
             devices: IndexMap::new(alloc),
             shown: Vec::new(alloc),
             bottom: 0,
         };
-        for _lane in &timeline.lanes {
-            layout.lanes.push(Row::hidden())?;
-        }
-        layout.show_stays(timeline)?;
-        layout.show_copies(timeline)?;
-        layout.show_marks(timeline)?;
-        layout.show_cuts(timeline)?;
-        layout.show_waits(timeline)?;
-        if !layout.scale.folds.is_empty() {
-            layout.see(Symbol::Folded)?;
-        }
+        layout.show_all(timeline)?;
         Ok(layout)
+    }
+
+    /// Which rows are shown, and what the legend has to explain.
+    fn show_all(&mut self, timeline: &Timeline) -> Result<(), AllocError> {
+        self.show_stays(timeline)?;
+        self.show_copies(timeline)?;
+        self.show_marks(timeline)?;
+        self.show_cuts(timeline)?;
+        self.show_waits(timeline)?;
+        if self.scale.folds.is_empty() {
+            return Ok(());
+        }
+        self.see(Symbol::Folded)
     }
 
     /// The legend has to explain it.

@@ -6,7 +6,7 @@ use crate::layout::Layout;
 use crate::marks::append_sign;
 use crate::rows::{BAR, THIN};
 use crate::symbol::{SYMBOLS, Symbol};
-use iom_svg::Svg;
+use iom_svg::{Part, Svg};
 use std::alloc::AllocError;
 
 /// The room of an entry.
@@ -30,34 +30,43 @@ pub(crate) fn height_of_legend(layout: &Layout) -> u64 {
     rows.saturating_mul(ENTRY_HEIGHT)
 }
 
+/// A bar of the legend.
+fn append_bar_of(svg: &mut Svg, symbol: Symbol, left: u64, top: u64) -> Result<(), AllocError> {
+    let (space, height) = match symbol {
+        Symbol::Held | Symbol::Lingering | Symbol::Quarantined | Symbol::Folded => (0, BAR),
+        _ => (5, THIN),
+    };
+    svg.rectangle(left, top.saturating_add(space), 24, height, symbol.fill())?;
+    svg.append(&[Part::Markup(symbol.outline()), Part::Markup("/>")])
+}
+
+/// A sign of the legend, that of a poll on its line.
+fn append_sign_of(svg: &mut Svg, symbol: Symbol, left: u64, top: u64) -> Result<(), AllocError> {
+    let middle = left.saturating_add(12);
+    if symbol == Symbol::Confirmed {
+        svg.line((middle, top), (middle, top.saturating_add(18)), POLL_LINE)?;
+    }
+    append_sign(svg, symbol, middle, top.saturating_add(BAR / 2))
+}
+
 /// An entry: the bar or the sign, and its words.
 fn append_entry(svg: &mut Svg, symbol: Symbol, left: u64, top: u64) -> Result<(), AllocError> {
     if symbol.is_bar() {
-        let (space, height) = match symbol {
-            Symbol::Held | Symbol::Lingering | Symbol::Quarantined | Symbol::Folded => (0, BAR),
-            _ => (5, THIN),
-        };
-        svg.rectangle(left, top.saturating_add(space), 24, height, symbol.fill())?;
-        svg.markup(symbol.outline())?;
-        svg.markup("/>")?;
+        append_bar_of(svg, symbol, left, top)?;
     } else {
-        if symbol == Symbol::Confirmed {
-            let middle = left.saturating_add(12);
-            svg.line((middle, top), (middle, top.saturating_add(18)), POLL_LINE)?;
-        }
-        append_sign(
-            svg,
-            symbol,
-            left.saturating_add(12),
-            top.saturating_add(BAR / 2),
-        )?;
+        append_sign_of(svg, symbol, left, top)?;
     }
     svg.begin_text(left.saturating_add(31), top.saturating_add(11), "")?;
-    svg.markup(symbol.words())?;
-    if symbol == Symbol::Lingering {
-        svg.markup(" (T: its ticket)")?;
-    }
-    svg.markup("</text>\n")
+    let more = if symbol == Symbol::Lingering {
+        " (T: its ticket)"
+    } else {
+        ""
+    };
+    svg.append(&[
+        Part::Markup(symbol.words()),
+        Part::Markup(more),
+        Part::Markup("</text>\n"),
+    ])
 }
 
 /// The legend, which explains what is drawn and nothing else.

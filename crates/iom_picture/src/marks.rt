@@ -3,115 +3,80 @@ use crate::bars::append_place;
 use crate::layout::Layout;
 use crate::symbol::Symbol;
 use iom_base::AccessKind;
-use iom_svg::Svg;
+use iom_svg::{Part, Svg};
 use iom_timeline::{Mark, MarkKind, Place, Timeline};
 use std::alloc::AllocError;
 
 /// A circle in the middle.
 fn append_circle(svg: &mut Svg, x: u64, y: u64, look: &str) -> Result<(), AllocError> {
-    svg.markup("<circle")?;
-    svg.attribute("cx", x)?;
-    svg.attribute("cy", y)?;
-    svg.markup(look)?;
-    svg.markup("/>")
+    svg.append(&[
+        Part::Markup("<circle cx=\""),
+        Part::Number(x),
+        Part::Markup("\" cy=\""),
+        Part::Number(y),
+        Part::Markup("\""),
+        Part::Markup(look),
+        Part::Markup("/>"),
+    ])
 }
 
 /// A path that begins so far left of the middle and above it, and goes on as the text says.
 fn append_path(svg: &mut Svg, x: u64, y: u64, rest: &str) -> Result<(), AllocError> {
-    svg.markup("<path d=\"M")?;
-    svg.number(x)?;
-    svg.markup(" ")?;
-    svg.number(y)?;
-    svg.markup(rest)?;
-    svg.markup("/>")
+    svg.append(&[
+        Part::Markup("<path d=\"M"),
+        Part::Number(x),
+        Part::Markup(" "),
+        Part::Number(y),
+        Part::Markup(rest),
+        Part::Markup("/>"),
+    ])
 }
 
-/// The white ground of a sign.
-fn append_ground(svg: &mut Svg, x: u64, y: u64) -> Result<(), AllocError> {
-    append_circle(svg, x, y, " r=\"5\" fill=\"#ffffff\" stroke=\"#222222\"")
-}
-
-/// The sign of a symbol that is no bar, around the point.
-pub(crate) fn append_sign(svg: &mut Svg, symbol: Symbol, x: u64, y: u64) -> Result<(), AllocError> {
+/// The circle of a sign, as attributes, if it has one.
+fn circle_of(symbol: Symbol) -> Option<&'static str> {
     match symbol {
-        Symbol::Accepted => append_circle(
-            svg,
-            x,
-            y,
-            " r=\"4\" fill=\"#ffffff\" stroke=\"#000000\" stroke-width=\"2\"",
-        ),
-        Symbol::Made => append_circle(svg, x, y, " r=\"4\" fill=\"#000000\" stroke=\"#ffffff\""),
-        Symbol::Fault => {
-            append_circle(svg, x, y, " r=\"6\" fill=\"#ffffff\"")?;
-            append_path(
-                svg,
-                x,
-                y,
-                "m-4 -4l8 8m0-8l-8 8\" stroke=\"#d55e00\" stroke-width=\"2\" fill=\"none\"",
-            )
+        Symbol::Accepted => {
+            Some(" r=\"4\" fill=\"#ffffff\" stroke=\"#000000\" stroke-width=\"2\"")
         }
-        Symbol::FenceDone => append_path(
-            svg,
-            x,
-            y,
-            "m0-6l6 6l-6 6l-6-6z\" fill=\"#f0e442\" stroke=\"#222222\"",
-        ),
-        Symbol::Confirmed => append_path(
-            svg,
-            x,
-            y,
-            "m-6-5h12l-6 11z\" fill=\"#0072b2\" stroke=\"#222222\"",
-        ),
-        Symbol::TimedOut => append_path(
-            svg,
-            x,
-            y,
-            "m-5-6h10l-10 12h10z\" fill=\"#d55e00\" stroke=\"#222222\"",
-        ),
-        Symbol::Restarted => append_path(
-            svg,
-            x,
-            y,
-            "m-5-5h10v10h-10z\" fill=\"#ffffff\" stroke=\"#222222\" stroke-width=\"2\"",
-        ),
-        Symbol::Lost => append_path(
-            svg,
-            x,
-            y,
-            "m-6-4h12v8h-12zm0 0l12 8m0-8l-12 8\" fill=\"#ffffff\" stroke=\"#222222\"",
-        ),
-        _ => append_frame_sign(svg, symbol, x, y),
+        Symbol::Made => Some(" r=\"4\" fill=\"#000000\" stroke=\"#ffffff\""),
+        Symbol::Fault => Some(" r=\"6\" fill=\"#ffffff\""),
+        Symbol::Free | Symbol::NotFree => Some(" r=\"5\" fill=\"#ffffff\" stroke=\"#222222\""),
+        _ => None,
     }
 }
 
-/// The sign of what is asked or said of a frame.
-fn append_frame_sign(svg: &mut Svg, symbol: Symbol, x: u64, y: u64) -> Result<(), AllocError> {
+/// The rest of the path of a sign, which begins in the middle, if it has one.
+fn path_of(symbol: Symbol) -> Option<&'static str> {
     match symbol {
-        Symbol::Free => {
-            append_ground(svg, x, y)?;
-            append_path(
-                svg,
-                x,
-                y,
-                "m-3 0l3 3l5-8\" stroke=\"#009e73\" stroke-width=\"2\" fill=\"none\"",
-            )
+        Symbol::Fault => {
+            Some("m-4 -4l8 8m0-8l-8 8\" stroke=\"#d55e00\" stroke-width=\"2\" fill=\"none\"")
         }
-        Symbol::NotFree => {
-            append_ground(svg, x, y)?;
-            append_path(
-                svg,
-                x,
-                y,
-                "m-3 0h6\" stroke=\"#d55e00\" stroke-width=\"3\" fill=\"none\"",
-            )
+        Symbol::FenceDone => Some("m0-6l6 6l-6 6l-6-6z\" fill=\"#f0e442\" stroke=\"#222222\""),
+        Symbol::Confirmed => Some("m-6-5h12l-6 11z\" fill=\"#0072b2\" stroke=\"#222222\""),
+        Symbol::TimedOut => Some("m-5-6h10l-10 12h10z\" fill=\"#d55e00\" stroke=\"#222222\""),
+        Symbol::Restarted => {
+            Some("m-5-5h10v10h-10z\" fill=\"#ffffff\" stroke=\"#222222\" stroke-width=\"2\"")
         }
-        Symbol::HandedOff => append_path(
-            svg,
-            x,
-            y,
-            "m-6-2h5v-4l7 6l-7 6v-4h-5z\" fill=\"#cc79a7\" stroke=\"#222222\"",
-        ),
-        _ => Ok(()),
+        Symbol::Lost => {
+            Some("m-6-4h12v8h-12zm0 0l12 8m0-8l-12 8\" fill=\"#ffffff\" stroke=\"#222222\"")
+        }
+        Symbol::Free => Some("m-3 0l3 3l5-8\" stroke=\"#009e73\" stroke-width=\"2\" fill=\"none\""),
+        Symbol::NotFree => Some("m-3 0h6\" stroke=\"#d55e00\" stroke-width=\"3\" fill=\"none\""),
+        Symbol::HandedOff => {
+            Some("m-6-2h5v-4l7 6l-7 6v-4h-5z\" fill=\"#cc79a7\" stroke=\"#222222\"")
+        }
+        _ => None,
+    }
+}
+
+/// The sign of a symbol that is no bar, around the point: its circle, and its path on that.
+pub(crate) fn append_sign(svg: &mut Svg, symbol: Symbol, x: u64, y: u64) -> Result<(), AllocError> {
+    if let Some(look) = circle_of(symbol) {
+        append_circle(svg, x, y, look)?;
+    }
+    match path_of(symbol) {
+        None => Ok(()),
+        Some(rest) => append_path(svg, x, y, rest),
     }
 }
 
@@ -122,17 +87,17 @@ fn append_words(svg: &mut Svg, kind: MarkKind) -> Result<(), AllocError> {
         MarkKind::Accepted(AccessKind::Write) => svg.markup("write accepted"),
         MarkKind::AcceptedStep => svg.markup("access accepted"),
         MarkKind::Made => svg.markup("access made"),
-        MarkKind::Fault(cause) => {
-            svg.markup("refused, cause ")?;
-            svg.number(u64::from(cause.code()))
-        }
-        MarkKind::Confirmed { first, last } => {
-            svg.markup("tickets ")?;
-            svg.number(u64::from(first))?;
-            svg.markup(" to ")?;
-            svg.number(u64::from(last))?;
-            svg.markup(" confirmed")
-        }
+        MarkKind::Fault(cause) => svg.append(&[
+            Part::Markup("refused, cause "),
+            Part::Number(u64::from(cause.code())),
+        ]),
+        MarkKind::Confirmed { first, last } => svg.append(&[
+            Part::Markup("tickets "),
+            Part::Number(u64::from(first)),
+            Part::Markup(" to "),
+            Part::Number(u64::from(last)),
+            Part::Markup(" confirmed"),
+        ]),
         _ => svg.markup(Symbol::of_mark(kind).words()),
     }
 }
@@ -150,9 +115,11 @@ fn append_beside(
         return Ok(());
     }
     svg.begin_text(x.saturating_add(7), y.saturating_add(4), " font-size=\"9\"")?;
-    svg.markup(letter)?;
-    svg.number(number)?;
-    svg.markup("</text>")
+    svg.append(&[
+        Part::Markup(letter),
+        Part::Number(number),
+        Part::Markup("</text>"),
+    ])
 }
 
 /// What a sign of the driver's row is about: the frame, where that has no row of its own; or the ticket that a poll confirms, where it is
@@ -184,9 +151,11 @@ fn append_mark(
     let Some(row) = layout.row(mark.place) else {
         return Ok(());
     };
-    svg.markup("<g><title>line ")?;
-    svg.number(mark.line)?;
-    svg.markup(", ")?;
+    svg.append(&[
+        Part::Markup("<g><title>line "),
+        Part::Number(mark.line),
+        Part::Markup(", "),
+    ])?;
     append_place(svg, timeline, mark.place)?;
     svg.markup(": ")?;
     append_words(svg, mark.kind)?;

@@ -8,7 +8,7 @@ use crate::legend::{append_legend, height_of_legend};
 use crate::marks::append_marks;
 use crate::patterns::append_patterns;
 use crate::spans::{append_quarantines, append_waits};
-use iom_svg::Svg;
+use iom_svg::{Part, Svg};
 use iom_timeline::Timeline;
 use std::alloc::{AllocError, Global};
 
@@ -23,14 +23,50 @@ const DESCRIPTION: &str =
 that devices were granted there: a solid bar while a page is held, a hatched one while it lingers until its ticket is \
 confirmed. Thin bars below show what could still reach the frame. Those at the top show what the command queue waits for.";
 
+/// The look of the first tag.
+const LOOK: &str = "\" role=\"img\" aria-labelledby=\"title description\" \
+font-family=\"system-ui, Segoe UI, Roboto, Helvetica, Arial, sans-serif\" font-size=\"12\" fill=\"#222222\">\n";
+
+/// Where the letters of the lines' numbers stand, below the legend.
+fn base_of_numbers(layout: &Layout) -> u64 {
+    height_of_legend(layout).saturating_add(LEGEND_TOP + 20)
+}
+
 /// Which lines of how many are drawn.
 fn append_title(svg: &mut Svg, layout: &Layout, timeline: &Timeline) -> Result<(), AllocError> {
-    svg.markup("Trace of an IOMMU, lines ")?;
-    svg.number(layout.scale.first)?;
-    svg.markup(" to ")?;
-    svg.number(layout.scale.last)?;
-    svg.markup(" of ")?;
-    svg.number(timeline.last_line)
+    svg.append(&[
+        Part::Markup("Trace of an IOMMU, lines "),
+        Part::Number(layout.scale.first),
+        Part::Markup(" to "),
+        Part::Number(layout.scale.last),
+        Part::Markup(" of "),
+        Part::Number(timeline.last_line),
+    ])
+}
+
+fn append_first_tag(svg: &mut Svg, width: u64, height: u64) -> Result<(), AllocError> {
+    svg.append(&[
+        Part::Markup("<svg xmlns=\"http://www.w3.org/2000/svg\" width=\""),
+        Part::Number(width),
+        Part::Markup("\" height=\""),
+        Part::Number(height),
+        Part::Markup("\" viewBox=\"0 0 "),
+        Part::Number(width),
+        Part::Markup(" "),
+        Part::Number(height),
+        Part::Markup(LOOK),
+    ])
+}
+
+/// The words for readers that show no picture.
+fn append_meaning(svg: &mut Svg, layout: &Layout, timeline: &Timeline) -> Result<(), AllocError> {
+    svg.markup("<title id=\"title\">")?;
+    append_title(svg, layout, timeline)?;
+    svg.append(&[
+        Part::Markup("</title>\n<desc id=\"description\">"),
+        Part::Markup(DESCRIPTION),
+        Part::Markup("</desc>\n"),
+    ])
 }
 
 /// The first tag, the words for readers that show no picture, and the ground.
@@ -41,20 +77,8 @@ fn append_head(
     height: u64,
 ) -> Result<(), AllocError> {
     let width = layout.scale.width();
-    svg.markup("<svg xmlns=\"http://www.w3.org/2000/svg\"")?;
-    svg.attribute("width", width)?;
-    svg.attribute("height", height)?;
-    svg.markup(" viewBox=\"0 0 ")?;
-    svg.number(width)?;
-    svg.markup(" ")?;
-    svg.number(height)?;
-    svg.markup("\" role=\"img\" aria-labelledby=\"title description\"")?;
-    svg.markup(" font-family=\"system-ui, Segoe UI, Roboto, Helvetica, Arial, sans-serif\"")?;
-    svg.markup(" font-size=\"12\" fill=\"#222222\">\n<title id=\"title\">")?;
-    append_title(svg, layout, timeline)?;
-    svg.markup("</title>\n<desc id=\"description\">")?;
-    svg.markup(DESCRIPTION)?;
-    svg.markup("</desc>\n")?;
+    append_first_tag(svg, width, height)?;
+    append_meaning(svg, layout, timeline)?;
     append_patterns(svg)?;
     svg.rectangle(0, 0, width, height, "#ffffff")?;
     svg.markup("/>\n")?;
@@ -63,28 +87,48 @@ fn append_head(
     svg.markup("</text>\n")
 }
 
+/// What stands above the rows, and behind them.
+fn append_frame(svg: &mut Svg, layout: &Layout, timeline: &Timeline) -> Result<(), AllocError> {
+    let numbers = base_of_numbers(layout);
+    let words = height_of_words(layout, timeline);
+    append_head(svg, layout, timeline, layout.bottom.saturating_add(words))?;
+    append_legend(svg, layout, LEGEND_TOP)?;
+    append_axis(svg, layout, numbers)?;
+    append_folds(svg, layout, numbers)?;
+    append_labels(svg, layout, timeline)
+}
+
+/// What stands in the rows, the signs last, and the words below them.
+fn append_rows(svg: &mut Svg, layout: &Layout, timeline: &Timeline) -> Result<(), AllocError> {
+    append_quarantines(svg, layout, timeline)?;
+    append_waits(svg, layout, timeline)?;
+    append_stays(svg, layout, timeline)?;
+    append_copies(svg, layout, timeline)?;
+    append_polls(svg, layout, timeline)?;
+    append_ends(svg, layout, timeline)?;
+    append_marks(svg, layout, timeline)?;
+    append_words(svg, layout, timeline)
+}
+
+/// The layout of what is chosen, with a place for each row.
+fn lay_out(alloc: Global, choice: Choice, timeline: &Timeline) -> Result<Layout, AllocError> {
+    let mut layout = Layout::new(alloc, choice.within(timeline.last_line), timeline)?;
+    let top = base_of_numbers(&layout).saturating_add(8);
+    layout.place_rows(alloc, timeline, top)?;
+    Ok(layout)
+}
+
+/// All of it.
+fn append_picture(svg: &mut Svg, layout: &Layout, timeline: &Timeline) -> Result<(), AllocError> {
+    append_frame(svg, layout, timeline)?;
+    append_rows(svg, layout, timeline)?;
+    svg.markup("</svg>\n")
+}
+
 /// The picture of what is chosen of a timeline: one SVG.
 pub fn draw(alloc: Global, choice: Choice, timeline: &Timeline) -> Result<Vec<u8>, AllocError> {
-    let mut layout = Layout::new(alloc, choice.within(timeline.last_line), timeline)?;
-    let numbers = height_of_legend(&layout).saturating_add(LEGEND_TOP + 20);
-    layout.place_rows(alloc, timeline, numbers.saturating_add(8))?;
-    let height = layout
-        .bottom
-        .saturating_add(height_of_words(&layout, timeline));
+    let layout = lay_out(alloc, choice, timeline)?;
     let mut svg = Svg::new(alloc);
-    append_head(&mut svg, &layout, timeline, height)?;
-    append_legend(&mut svg, &layout, LEGEND_TOP)?;
-    append_axis(&mut svg, &layout, numbers)?;
-    append_folds(&mut svg, &layout, numbers)?;
-    append_labels(&mut svg, &layout, timeline)?;
-    append_quarantines(&mut svg, &layout, timeline)?;
-    append_waits(&mut svg, &layout, timeline)?;
-    append_stays(&mut svg, &layout, timeline)?;
-    append_copies(&mut svg, &layout, timeline)?;
-    append_polls(&mut svg, &layout, timeline)?;
-    append_ends(&mut svg, &layout, timeline)?;
-    append_marks(&mut svg, &layout, timeline)?;
-    append_words(&mut svg, &layout, timeline)?;
-    svg.markup("</svg>\n")?;
+    append_picture(&mut svg, &layout, timeline)?;
     Ok(svg.into_bytes())
 }

@@ -14,7 +14,7 @@ const GAP: u64 = 8;
 const TRACKS: usize = 8;
 
 /// Bars of one kind that stand below one another, since they are there at the same time.
-#[derive(Clone, Copy, PartialEq, Eq, Debug)]
+#[derive(Clone, Copy)]
 struct Tracks {
     count: u64,
     /// Where the last bar of each ends.
@@ -45,7 +45,7 @@ impl Tracks {
 }
 
 /// Which kinds of copies a row has, and how many of each at the same time.
-#[derive(Clone, Copy, PartialEq, Eq, Debug)]
+#[derive(Clone, Copy)]
 pub(crate) struct Row {
     pub(crate) is_shown: bool,
     pub(crate) top: u64,

@@ -32,7 +32,7 @@ const WIDE_STEP: u64 = 12;
 const FOLD_WIDTH: u64 = 64;
 
 /// A run of lines that share one place.
-#[derive(Clone, Copy, PartialEq, Eq, Debug)]
+#[derive(Clone, Copy)]
 pub(crate) struct Fold {
     pub(crate) left: u64,
     pub(crate) first: u64,
@@ -55,7 +55,7 @@ impl Fold {
 }
 
 /// Where a line stands.
-#[derive(Clone, Copy, PartialEq, Eq, Debug)]
+#[derive(Clone, Copy)]
 struct Column {
     middle: u64,
     is_folded: bool,

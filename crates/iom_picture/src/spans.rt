@@ -30,7 +30,7 @@ fn append_quarantine(
         ticket: None,
         free_from: None,
     };
-    append_bar(svg, layout, timeline, bar)
+    append_bar(svg, layout, timeline, &bar)
 }
 
 /// The spans in which devices are quarantined, behind the bars of the same rows.
@@ -68,7 +68,7 @@ pub(crate) fn append_waits(
             ticket: None,
             free_from: None,
         };
-        append_bar(svg, layout, timeline, bar)?;
+        append_bar(svg, layout, timeline, &bar)?;
     }
     Ok(())
 }

@@ -1,7 +1,7 @@
 // The bars and signs of a picture, with what they mean.
 use iom_timeline::{CopyKind, MarkKind, WaitCause};
 
-#[derive(Clone, Copy, PartialEq, Eq, Debug)]
+#[derive(Clone, Copy, PartialEq, Eq)]
 pub(crate) enum Symbol {
     Held,
     Lingering,

@@ -8,4 +8,4 @@ mod escapes;
 mod svg;
 
 pub use escapes::append_escaped;
-pub use svg::Svg;
+pub use svg::{Part, Svg};

@@ -4,6 +4,19 @@ use iom_base::DeviceId;
 use itoa::Buffer;
 use std::alloc::{AllocError, Global};
 
+/// A piece of an SVG.
+#[derive(Clone, Copy)]
+pub enum Part<'a> {
+    /// Markup of the picture's own.
+    Markup(&'a str),
+    /// Text of the trace.
+    Text(&'a [u8]),
+    /// A number in decimal.
+    Number(u64),
+    /// A device in six hexadecimal digits.
+    Device(DeviceId),
+}
+
 /// An SVG that grows.
 #[derive(Drop)]
 pub struct Svg {
@@ -54,13 +67,33 @@ impl Svg {
         Ok(())
     }
 
+    fn part(&mut self, part: Part<'_>) -> Result<(), AllocError> {
+        match part {
+            Part::Markup(text) => self.markup(text),
+            Part::Text(text) => self.text(text),
+            Part::Number(number) => self.number(number),
+            Part::Device(id) => self.device(id),
+        }
+    }
+
+    /// These pieces, one behind the other.
+    // One call for all of them: each call that may fail is a way of its own for a proof.
+    pub fn append(&mut self, parts: &[Part<'_>]) -> Result<(), AllocError> {
+        for part in parts {
+            self.part(*part)?;
+        }
+        Ok(())
+    }
+
     /// An attribute that is a number.
     pub fn attribute(&mut self, name: &str, value: u64) -> Result<(), AllocError> {
-        self.markup(" ")?;
-        self.markup(name)?;
-        self.markup("=\"")?;
-        self.number(value)?;
-        self.markup("\"")
+        self.append(&[
+            Part::Markup(" "),
+            Part::Markup(name),
+            Part::Markup("=\""),
+            Part::Number(value),
+            Part::Markup("\""),
+        ])
     }
 
     /// A rectangle with the fill, up to what ends its first tag.
@@ -72,37 +105,48 @@ impl Svg {
         height: u64,
         fill: &str,
     ) -> Result<(), AllocError> {
-        self.markup("<rect")?;
-        self.attribute("x", left)?;
-        self.attribute("y", top)?;
-        self.attribute("width", width)?;
-        self.attribute("height", height)?;
-        self.markup(" fill=\"")?;
-        self.markup(fill)?;
-        self.markup("\"")
+        self.append(&[
+            Part::Markup("<rect x=\""),
+            Part::Number(left),
+            Part::Markup("\" y=\""),
+            Part::Number(top),
+            Part::Markup("\" width=\""),
+            Part::Number(width),
+            Part::Markup("\" height=\""),
+            Part::Number(height),
+            Part::Markup("\" fill=\""),
+            Part::Markup(fill),
+            Part::Markup("\""),
+        ])
     }
 
     /// A line between two points.
     pub fn line(&mut self, from: (u64, u64), to: (u64, u64), look: &str) -> Result<(), AllocError> {
-        self.markup("<path d=\"M")?;
-        self.number(from.0)?;
-        self.markup(" ")?;
-        self.number(from.1)?;
-        self.markup("L")?;
-        self.number(to.0)?;
-        self.markup(" ")?;
-        self.number(to.1)?;
-        self.markup("\" ")?;
-        self.markup(look)?;
-        self.markup("/>\n")
+        self.append(&[
+            Part::Markup("<path d=\"M"),
+            Part::Number(from.0),
+            Part::Markup(" "),
+            Part::Number(from.1),
+            Part::Markup("L"),
+            Part::Number(to.0),
+            Part::Markup(" "),
+            Part::Number(to.1),
+            Part::Markup("\" "),
+            Part::Markup(look),
+            Part::Markup("/>\n"),
+        ])
     }
 
     /// The first tag of a text at the place.
     pub fn begin_text(&mut self, left: u64, base: u64, look: &str) -> Result<(), AllocError> {
-        self.markup("<text")?;
-        self.attribute("x", left)?;
-        self.attribute("y", base)?;
-        self.markup(look)?;
-        self.markup(">")
+        self.append(&[
+            Part::Markup("<text x=\""),
+            Part::Number(left),
+            Part::Markup("\" y=\""),
+            Part::Number(base),
+            Part::Markup("\""),
+            Part::Markup(look),
+            Part::Markup(">"),
+        ])
     }
 }
