@@ -62,34 +62,63 @@ fn tell_releases(
     Ok(())
 }
 
-/// Tells a line that says something else than an event with its outcome. False where it isn't in the grammar.
+/// Tells a line that says something else than an event with its outcome.
 fn tell_other(
     follower: &mut Follower,
     line: &[u8],
     read: &TraceLine<'_>,
-) -> Result<bool, AllocError> {
+) -> Result<(), AllocError> {
     match read {
-        TraceLine::Nothing => follower.pass(),
         TraceLine::World(_, _) | TraceLine::Take(_) | TraceLine::TablesFreed => {
-            follower.begin(line)?
+            follower.begin(line)
         }
         TraceLine::Joins {
             device,
             with,
             ats,
             ..
-        } => follower.join(line, *device, *with, *ats)?,
+        } => follower.join(line, *device, *with, *ats),
         TraceLine::Made { device, .. } => {
             let event = Event::Commit { device: *device };
-            follower.take(line, &event, &Outcome::Wrote(0), NOTHING)?;
+            follower.take(line, &event, &Outcome::Wrote(0), NOTHING)
         }
-        TraceLine::Grants(granted, _) => tell_grants(follower, line, *granted)?,
-        TraceLine::Releases(released, ticket) => tell_releases(follower, line, *released, *ticket)?,
+        TraceLine::Grants(granted, _) => tell_grants(follower, line, *granted),
+        TraceLine::Releases(released, ticket) => tell_releases(follower, line, *released, *ticket),
         TraceLine::Handoff(frame) => {
             let event = Event::Free { frame: *frame };
-            follower.take(line, &event, &Outcome::Free(true), NOTHING)?;
+            follower.take(line, &event, &Outcome::Free(true), NOTHING)
         }
-        _ => return Ok(false),
+        TraceLine::Nothing => {
+            follower.pass();
+            Ok(())
+        }
+        // They are told already.
+        TraceLine::Step { .. } | TraceLine::Bad => Ok(()),
+    }
+}
+
+/// Tells the line. False where it isn't in the grammar.
+fn tell_line(
+    follower: &mut Follower,
+    line: &[u8],
+    read: &TraceLine<'_>,
+) -> Result<bool, AllocError> {
+    match read {
+        TraceLine::Bad => return Ok(false),
+        TraceLine::Step {
+            event,
+            outcome,
+            on,
+            began,
+            ..
+        } => {
+            let shown = Shown {
+                on: *on,
+                began: *began,
+            };
+            follower.take(line, event, outcome, shown)?;
+        }
+        other => tell_other(follower, line, other)?,
     }
     Ok(true)
 }
@@ -125,21 +154,10 @@ impl Desk {
             self.has_world,
             line,
         )?;
-        self.has_world = self.has_world || matches!(read, TraceLine::World(_, _));
-        match read {
-            TraceLine::Step {
-                event,
-                outcome,
-                has_tables: _,
-                on,
-                began,
-            } => {
-                let shown = Shown { on, began };
-                follower.take(line, &event, outcome, shown)?;
-                Ok(true)
-            }
-            other => tell_other(follower, line, &other),
+        if let TraceLine::World(_, _) = read {
+            self.has_world = true;
         }
+        tell_line(follower, line, &read)
     }
 }
 
@@ -188,11 +206,17 @@ fn follow<R: Read>(
     tell_lines(&mut desk, follower, &mut lines, reader)
 }
 
+/// What was read, where this is the number of the first line that isn't in the grammar, if one isn't.
+fn reading_of(follower: Follower, bad: Option<u64>) -> Reading {
+    match bad {
+        None => Reading::Trace(follower.finish()),
+        Some(number) => Reading::BadLine(number),
+    }
+}
+
 /// Reads a trace to its end, or to its first line that isn't in the grammar.
 pub fn read_trace<R: Read>(alloc: Global, reader: &mut R) -> io::Result<Reading> {
     let mut follower = Follower::new(alloc);
-    match follow(alloc, &mut follower, reader)? {
-        None => Ok(Reading::Trace(follower.finish())),
-        Some(number) => Ok(Reading::BadLine(number)),
-    }
+    let bad = follow(alloc, &mut follower, reader)?;
+    Ok(reading_of(follower, bad))
 }
