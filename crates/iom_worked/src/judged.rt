@@ -16,7 +16,7 @@ use std::alloc::Global;
 use std::{fmt, fs};
 
 /// What the checker found of an output.
-#[derive(Clone, Copy, Debug)]
+#[derive(Clone, Copy)]
 enum Wanted {
     Lawful,
     /// It refused this line, after one was changed.
@@ -24,7 +24,7 @@ enum Wanted {
 }
 
 /// A line of the index.
-#[derive(Clone, Copy, Debug)]
+#[derive(Clone, Copy)]
 struct Row<'a> {
     output: &'a str,
     script: &'a str,

@@ -5,7 +5,7 @@ use iom_picture::Choice;
 use std::alloc::{AllocError, Global};
 
 /// What is asked for.
-#[derive(Clone, Copy, Debug)]
+#[derive(Clone, Copy)]
 pub(crate) enum Request<'a> {
     Help,
     Version,
@@ -17,7 +17,7 @@ pub(crate) enum Request<'a> {
 }
 
 /// Why a command line can't be read.
-#[derive(Clone, Copy, PartialEq, Eq, Debug)]
+#[derive(Clone, Copy)]
 pub(crate) enum ArgumentsFault {
     /// It isn't a lawful one.
     Bad,

@@ -2,7 +2,7 @@ use iom_base::{AccessKind, Cause, DeviceId};
 use iom_phys_mem::{Bytes, Memory};
 
 /// What is told of a fault: its cause, and the fourth word of its record (IOMMU specification, section 3.2).
-#[derive(Clone, Copy, PartialEq, Eq, Debug)]
+#[derive(Clone, Copy)]
 pub(crate) struct Told {
     pub(crate) cause: Cause,
     pub(crate) iotval2: u64,
