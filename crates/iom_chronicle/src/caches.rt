@@ -21,21 +21,26 @@ pub(crate) struct CacheLines {
 }
 
 /// What a device has in its own cache.
-pub(crate) fn entries_of(device: &Device) -> &[Entry] {
+fn entries_of(device: &Device) -> &[Entry] {
     match &device.cache {
         Some(cache) => cache.entries(),
         None => &[],
     }
 }
 
-/// Whether the device still has what was kept.
-fn is_still_there(devices: &[Device], kept: &Kept) -> bool {
+/// What the device with this id has in its own cache.
+pub(crate) fn entries_at(devices: &[Device], id: DeviceId) -> &[Entry] {
     for device in devices.iter() {
-        if device.id == kept.device {
-            return entries_of(device).contains(&kept.entry);
+        if device.id == id {
+            return entries_of(device);
         }
     }
-    false
+    &[]
+}
+
+/// Whether the device still has what was kept.
+fn is_still_there(devices: &[Device], kept: &Kept) -> bool {
+    entries_at(devices, kept.device).contains(&kept.entry)
 }
 
 impl CacheLines {
@@ -47,9 +52,12 @@ impl CacheLines {
     }
 
     fn has(&self, device: DeviceId, entry: &Entry) -> bool {
-        self.kept
-            .iter()
-            .any(|kept| kept.device == device && kept.entry == *entry)
+        for kept in self.kept.iter() {
+            if kept.device == device && kept.entry == *entry {
+                return true;
+            }
+        }
+        false
     }
 
     /// Adds what the device has and isn't known.

@@ -40,7 +40,12 @@ impl ContextLines {
     }
 
     fn has_row(&self, device: DeviceId) -> bool {
-        self.rows.iter().any(|row| row.device == device)
+        for row in self.rows.iter() {
+            if row.device == device {
+                return true;
+            }
+        }
+        false
     }
 
     pub(crate) fn notice(&mut self, hardware: &Board, line: u64) {
@@ -53,10 +58,11 @@ impl ContextLines {
 
     /// Since when a context is known for the device.
     pub(crate) fn since(&self, device: DeviceId) -> Option<u64> {
-        let row = self.rows.iter().find(|row| row.device == device)?;
-        match row.cached {
-            Some(known) => Some(known.line),
-            None => None,
+        for row in self.rows.iter() {
+            if row.device == device {
+                return Some(row.cached?.line);
+            }
         }
+        None
     }
 }

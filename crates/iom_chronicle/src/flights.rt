@@ -36,11 +36,12 @@ impl FlightLines {
 
     /// The oldest of the device is made: what was kept of it.
     pub(crate) fn make(&mut self, device: DeviceId) -> Option<Origin> {
-        let place = self
-            .flights
-            .iter()
-            .position(|flight| flight.device == device)?;
-        Some(self.flights.remove(place).origin)
+        for place in 0..self.flights.len() {
+            if self.flights[place].device == device {
+                return Some(self.flights.remove(place).origin);
+            }
+        }
+        None
     }
 
     /// What is kept of the device's access at this place, the oldest at 0.

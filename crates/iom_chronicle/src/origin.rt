@@ -2,7 +2,7 @@
 use std::fmt;
 
 /// By which door an access came in.
-#[derive(Clone, Copy, PartialEq, Eq, Debug)]
+#[derive(Clone, Copy)]
 pub enum Entrance {
     /// At an address that the IOMMU translates.
     Untranslated,
@@ -13,7 +13,7 @@ pub enum Entrance {
 }
 
 /// What let an access through.
-#[derive(Clone, Copy, PartialEq, Eq, Debug)]
+#[derive(Clone, Copy)]
 pub enum Through {
     DirectoryBare,
     StagesBare,
@@ -37,7 +37,7 @@ pub enum Through {
 }
 
 /// What is kept of an access in flight: the line at which it was accepted, and what let it through. It is printed as that.
-#[derive(Clone, Copy, PartialEq, Eq, Debug)]
+#[derive(Clone, Copy)]
 pub struct Origin {
     pub line: u64,
     pub through: Through,

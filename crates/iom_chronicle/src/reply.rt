@@ -3,14 +3,14 @@ use iom_base::DeviceId;
 use std::fmt;
 
 /// Which of a device's contexts it is: the one in memory, or the one that the IOMMU has cached.
-#[derive(Clone, Copy, PartialEq, Eq, Debug)]
+#[derive(Clone, Copy)]
 pub enum ContextPlace {
     Stored,
     Cached,
 }
 
 /// A way by which a device can reach a frame. It says "by" what.
-#[derive(Clone, Copy, PartialEq, Eq, Debug)]
+#[derive(Clone, Copy)]
 pub enum WayFound {
     /// The access was accepted at that line.
     InFlight {
@@ -98,7 +98,7 @@ fn write_context<W: fmt::Write>(f: &mut fmt::Formatter<W>, context: ContextPlace
 }
 
 /// How the hardware uses a frame.
-#[derive(Clone, Copy, PartialEq, Eq, Debug)]
+#[derive(Clone, Copy)]
 pub enum Use {
     CommandQueue,
     /// The fault queue is there, or the word of a fence that waits.
@@ -137,7 +137,7 @@ impl fmt::Display for Use {
 }
 
 /// As what the hardware reads a frame that it relies on: "ID can write frame F, which ..".
-#[derive(Clone, Copy, PartialEq, Eq, Debug)]
+#[derive(Clone, Copy)]
 pub enum ReadAs {
     Table { walker: DeviceId },
     Directory,

@@ -4,7 +4,7 @@ use iom_base::{DeviceId, Rights};
 use iom_fabric::{Fabric, Message, Translation};
 
 /// What a message says. What is invalidated its number tells.
-#[derive(Clone, Copy, PartialEq, Eq, Debug)]
+#[derive(Clone, Copy, PartialEq, Eq)]
 pub(crate) enum Said {
     Question {
         epoch: u64,
@@ -29,7 +29,7 @@ pub(crate) enum Said {
 }
 
 /// A message, and the device on whose link it is.
-#[derive(Clone, Copy, PartialEq, Eq, Debug)]
+#[derive(Clone, Copy, PartialEq, Eq)]
 pub(crate) struct Sent {
     pub(crate) device: DeviceId,
     pub(crate) said: Said,

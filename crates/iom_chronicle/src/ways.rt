@@ -1,5 +1,5 @@
 // By which way a device can reach a frame, and since when.
-use crate::caches::entries_of;
+use crate::caches::entries_at;
 use crate::chronicle::Chronicle;
 use crate::directory::context_address;
 use crate::found::{
@@ -92,8 +92,7 @@ impl Chronicle {
     }
 
     fn kept_way(&self, hardware: &Board, id: DeviceId, target: Target) -> Option<WayFound> {
-        let device = hardware.devices.iter().find(|device| device.id == id)?;
-        for entry in entries_of(device).iter() {
+        for entry in entries_at(&hardware.devices, id).iter() {
             if entry.frame == target.frame && entry.rights.allows(target.kind) {
                 let page = entry.page.number();
                 let since = match self.caches.of_page(id, page) {
