@@ -1,9 +1,8 @@
 // The names of the rows.
 use crate::layout::Layout;
 use crate::rows::Row;
-use iom_base::DeviceId;
 use iom_svg::{Part, Svg};
-use iom_timeline::{Lane, Timeline};
+use iom_timeline::Timeline;
 use std::alloc::AllocError;
 
 /// Where the names begin: of frames and of their lanes.
@@ -16,54 +15,43 @@ fn base_of(row: Row) -> u64 {
     row.top.saturating_add(12)
 }
 
-fn append_lane(svg: &mut Svg, lane: &Lane, row: Row) -> Result<(), AllocError> {
-    svg.begin_text(INNER, base_of(row), "")?;
-    svg.append(&[
-        Part::Device(lane.device),
-        Part::Markup(" page "),
-        Part::Number(lane.page),
-        Part::Markup("</text>\n"),
-    ])
-}
-
 fn append_lanes(svg: &mut Svg, layout: &Layout, timeline: &Timeline) -> Result<(), AllocError> {
     for (lane, row) in timeline.lanes.iter().zip(layout.lanes.iter()) {
-        if row.is_shown {
-            append_lane(svg, lane, *row)?;
+        if !row.is_shown {
+            continue;
         }
+        svg.begin_text(INNER, base_of(*row), "")?;
+        svg.append(&[
+            Part::Device(lane.device),
+            Part::Markup(" page "),
+            Part::Number(lane.page),
+            Part::Markup("</text>\n"),
+        ])?;
     }
     Ok(())
-}
-
-fn append_frame(svg: &mut Svg, end: u64, frame: u64, top: u64) -> Result<(), AllocError> {
-    svg.line((OUTER, top), (end, top), "stroke=\"#cccccc\"")?;
-    svg.begin_text(OUTER, top.saturating_add(15), " font-weight=\"bold\"")?;
-    svg.append(&[
-        Part::Markup("frame "),
-        Part::Number(frame),
-        Part::Markup("</text>\n"),
-    ])
 }
 
 fn append_frames(svg: &mut Svg, layout: &Layout) -> Result<(), AllocError> {
     let end = layout.scale.end();
     for (frame, top) in &layout.frames {
-        append_frame(svg, end, *frame, *top)?;
+        svg.line((OUTER, *top), (end, *top), "stroke=\"#cccccc\"")?;
+        svg.begin_text(OUTER, top.saturating_add(15), " font-weight=\"bold\"")?;
+        svg.append(&[
+            Part::Markup("frame "),
+            Part::Number(*frame),
+            Part::Markup("</text>\n"),
+        ])?;
     }
     Ok(())
-}
-
-fn append_device(svg: &mut Svg, end: u64, id: DeviceId, row: Row) -> Result<(), AllocError> {
-    let top = row.top.saturating_sub(4);
-    svg.line((OUTER, top), (end, top), "stroke=\"#cccccc\"")?;
-    svg.begin_text(OUTER, base_of(row), "")?;
-    svg.append(&[Part::Device(id), Part::Markup(" elsewhere</text>\n")])
 }
 
 fn append_devices(svg: &mut Svg, layout: &Layout) -> Result<(), AllocError> {
     let end = layout.scale.end();
     for (id, row) in &layout.devices {
-        append_device(svg, end, *id, *row)?;
+        let top = row.top.saturating_sub(4);
+        svg.line((OUTER, top), (end, top), "stroke=\"#cccccc\"")?;
+        svg.begin_text(OUTER, base_of(*row), "")?;
+        svg.append(&[Part::Device(*id), Part::Markup(" elsewhere</text>\n")])?;
     }
     Ok(())
 }

@@ -203,24 +203,6 @@ impl Layout {
         Ok(())
     }
 
-    /// The lanes that are shown, by their frames and in the order of their first grants.
-    fn order_of(
-        &self,
-        alloc: Global,
-        timeline: &Timeline,
-    ) -> Result<Vec<(u64, usize)>, AllocError> {
-        let mut order = Vec::new(alloc);
-        for place in 0..self.lanes.len() {
-            if let Some(lane) = timeline.lanes.get(place) {
-                if self.lanes[place].is_shown {
-                    order.push((lane.frame, place))?;
-                }
-            }
-        }
-        order.sort()?;
-        Ok(order)
-    }
-
     /// Gives each row its place, from the top down: the driver's, each frame's with its lanes below it in the order of their
     /// first grants, and those of devices.
     pub(crate) fn place_rows(
@@ -231,7 +213,13 @@ impl Layout {
     ) -> Result<(), AllocError> {
         self.driver.top = top;
         self.bottom = self.driver.end();
-        let order = self.order_of(alloc, timeline)?;
+        let mut order: Vec<(u64, usize)> = Vec::new(alloc);
+        for (place, (lane, row)) in timeline.lanes.iter().zip(self.lanes.iter()).enumerate() {
+            if row.is_shown {
+                order.push((lane.frame, place))?;
+            }
+        }
+        order.sort()?;
         for (frame, place) in &order {
             self.place_lane(*frame, *place)?;
         }
