@@ -2,3 +2,4 @@ pub mod RunLemmas
 pub mod TextLemmas
 pub mod BadLineLemmas
 pub mod ReadLemmas
+pub mod TrafficLemmas

@@ -1,14 +1,17 @@
 -- Where the parts of a runner have come to: what their private functions keep. No public contract cites it.
-use Rattle.std.specs.Prelude.{◌≡◌, ℕ, ◌+◌, ◌<◌, ◌≤◌, ◌==◌, ◌⊎◌, Bool, true, false, List, [], ◌∷◌, ◌++◌, length, Option, None, Some}
-use Rattle.std.specs.List.{All}
-use Rattle.iom_hardware_runner.specs.Runs.{SpellsOut, is_asked, HasRun, NamesLine}
+use Rattle.std.specs.Prelude.{◌≡◌, ℕ, ◌+◌, ◌<◌, ◌≤◌, ◌==◌, ◌&&◌, ◌||◌, nat_le, ◌⊎◌, Bool, true, false, List, [], ◌∷◌, ◌++◌, length, Option, None, Some}
+use Rattle.std.specs.List.{All, AllPass, list_any}
+use Rattle.iom_hardware_runner.specs.Runs.{SpellsOut, is_traffic_at, has_traffic, is_own, acts, HasRun, NamesLine}
 use Rattle.iom_hardware_runner.specs.declared.arriving.Arriving.{Arriving}
 use Rattle.iom_hardware_runner.specs.declared.faults.RunFault.{RunFault}
 use Rattle.iom_hardware_runner.specs.declared.faults.RunFault.TheVariants.{BadScript, Reading, Memory}
 use Rattle.iom_hardware_runner.specs.declared.helper.Helper.{Helper}
+use Rattle.iom_hardware_runner.specs.declared.helper.Traffic.{Traffic}
 use Rattle.iom_hardware_runner.specs.declared.machine.Machine.{Machine}
 use Rattle.iom_hardware_runner.specs.declared.teller.Teller.{Teller}
 use Rattle.iom_hardware_script.specs.declared.script.HardwareLine.{HardwareLine}
+use Rattle.iom_hardware_script.specs.declared.script.HardwareLine.TheVariants as says
+use Rattle.iom_hardware_script.specs.declared.script.Help.{Help}
 use Rattle.iom_hardware_script.specs.declared.script.HardwareScript.{HardwareScript}
 use Rattle.iom_hardware_script.specs.Grammar.{IsSetupLine, IsHardwareLine, SayHardware}
 use Rattle.iom_script.specs.declared.parser.ScriptFault.{ScriptFault}
@@ -27,26 +30,48 @@ KeepsSession old new = (new.session ≡ old.session) × (new.is_wrong ≡ old.is
 abbrev pub TellsLine : Teller → HardwareLine → Teller → Type 0
 TellsLine old said new = (frames : ℕ) (ran : List HardwareLine) → HasRun frames ran old.session old.is_wrong → HasRun frames (ran ++ said ∷ []) new.session new.is_wrong
 
+-- whatever ran before, hardware did something by itself, and this is so of all that it did
+abbrev pub Does : (List HardwareLine → Type 0) → Teller → Teller → Type 0
+Does Are old new = (frames : ℕ) (ran : List HardwareLine) → HasRun frames ran old.session old.is_wrong
+    → (own : List HardwareLine) × Are own × HasRun frames (ran ++ own) new.session new.is_wrong
+
+-- it did so many things at most
+abbrev pub AreFew : (may : ℕ → ℕ → Bool) → (most : ℕ) → List HardwareLine → Type 0
+AreFew may most own = AllPass (is_own may) own × (length own ≤ most)
+
+-- the traffic is at the page of the device
+abbrev pub is_at : (device page : ℕ) → Traffic → Bool
+is_at device page row = (row.device == device) && (nat_le row.first page && nat_le page row.last)
+
+-- the device makes requests there by itself
+abbrev pub asks_at : Helper → (device page : ℕ) → Bool
+asks_at helper device page = list_any (is_at device page) helper.traffic.items
+
+-- it does where it did
+abbrev pub KeepsTraffic : Helper → Helper → Type 0
+KeepsTraffic old new = new.traffic.items ≡ old.traffic.items
+
+-- it does where it did, or where the line says
+abbrev pub AddsTraffic : Help → Helper → Helper → Type 0
+AddsTraffic help old new = (device page : ℕ) → asks_at new device page ≡ true → (asks_at old device page || is_traffic_at device page (says.Help help)) ≡ true
+
 -- hardware does nothing by itself
 abbrev pub is_off : Helper → Bool
 is_off helper = helper.draws.last == 0
 
--- these lines were said, and the machine has run what they spell out; hardware acts by itself only where it was asked to
+-- where it did nothing by itself, it does nothing
+abbrev pub StaysOff : Helper → Helper → Type 0
+StaysOff old new = is_off new ≡ false → is_off old ≡ false
+
+-- these lines were said, and the machine has run what they spell out; numbers are drawn only where hardware acts by itself, and devices ask only where a line says so
 pub record CameBy (frames : ℕ) (said : List HardwareLine) (machine : Machine) : Type 0 where
   pub ran : List HardwareLine
   pub spells : SpellsOut said ran
   pub has_run : HasRun frames ran machine.teller.session machine.teller.is_wrong
-  pub asked : is_off machine.helper ≡ false → is_asked said ≡ true
+  pub on : is_off machine.helper ≡ false → acts said ≡ true
+  pub asks : (device page : ℕ) → asks_at machine.helper device page ≡ true → has_traffic said device page ≡ true
 
--- whatever was said before, all of it was said still; more may have run
-abbrev pub RunsOn : Machine → Machine → Type 0
-RunsOn old new = (frames : ℕ) (said : List HardwareLine) → CameBy frames said old → CameBy frames said new
-
--- so where hardware was asked to act by itself
-abbrev pub ActsOn : Machine → Machine → Type 0
-ActsOn old new = (frames : ℕ) (said : List HardwareLine) → is_asked said ≡ true → CameBy frames said old → CameBy frames said new
-
--- the line was said too
+-- whatever was said before, the line was said too
 abbrev pub MachineTakesLine : Machine → HardwareLine → Machine → Type 0
 MachineTakesLine old next new = (frames : ℕ) (said : List HardwareLine) → CameBy frames said old → CameBy frames (said ++ next ∷ []) new
 

@@ -3,7 +3,7 @@ ghost use Rattle.std.specs.Prelude.{◌≡◌, ◌==◌, ◌<◌, ◌%◌, lengt
 ghost use Rattle.iom_hardware_runner.specs.Draws.{drawn_after};
 
 /// Numbers drawn from a seed, each by shifts of the last one (xorshift).
-#[derive(Clone, Copy, Debug)]
+#[derive(Clone, Copy)]
 pub(crate) struct Draws {
     last: u64,
 }

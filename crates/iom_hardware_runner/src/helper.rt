@@ -1,25 +1,36 @@
 // Hardware that acts by itself: which steps it takes.
-ghost use Rattle.std.specs.Prelude.{◌≡◌, true, IfOk, IfErr, OnOk, OnErr};
-ghost use Rattle.iom_hardware_runner.specs.Parts.{is_off};
+ghost use Rattle.std.specs.Prelude.{◌≡◌, ◌==◌, ◌≤◌, [], true, IfOk, IfErr, OnOk, OnErr};
+ghost use Rattle.iom_hardware_runner.specs.Parts.{is_off, is_at, asks_at, KeepsTraffic};
+ghost use Rattle.iom_hardware_runner.specs.Runs.{is_own};
 ghost use Rattle.iom_hardware_runner.specs.Traffic.{CanMakeRequests, TrafficIsRefused, with_traffic};
 
 use crate::draws::Draws;
 use crate::step::Step;
-use iom_base::{DeviceId, Refusal};
+use iom_base::{DeviceId, PAGE_SIZE, Refusal};
 use iom_board::Board;
+use iom_hardware_script::HardwareLine;
+use iom_machine::Event;
 use std::alloc::{AllocError, Global};
 
 /// For so many lines of software a mood lasts.
 const MOOD_LINES: u32 = 16;
 
-/// The steps that hardware takes at most before a line, one number for each mood.
-const MOODS: [u64; 4] = [0, 1, 3, 3];
+/// How eager hardware is.
+#[derive(Clone, Copy)]
+enum Mood {
+    Still,
+    Slow,
+    Eager,
+}
+
+/// One of these is drawn.
+const MOODS: [Mood; 4] = [Mood::Still, Mood::Slow, Mood::Eager, Mood::Eager];
 
 /// The pages of the 64-bit address space.
 const PAGES: u64 = 1 << 52;
 
 /// The pages at which a device makes requests by itself, with both ends.
-#[derive(Clone, Copy, Debug)]
+#[derive(Clone, Copy)]
 struct Traffic {
     device: DeviceId,
     first: u64,
@@ -30,8 +41,7 @@ struct Traffic {
 #[derive(Drop)]
 pub(crate) struct Helper {
     draws: Draws,
-    /// The steps that it takes at most before a line of software.
-    most: u64,
+    mood: Mood,
     /// So many lines of software, and it is in another mood.
     mood_lines: u32,
     /// In the order in which the devices were first named.
@@ -40,14 +50,37 @@ pub(crate) struct Helper {
     steps: Vec<Step>,
 }
 
+impl Traffic {
+    /// Whether it is at the page of the device.
+    fn is_at(&self, device: DeviceId, page: u64) -> bool
+        ensures { result ≡ is_at device page self.now }
+    {
+        self.device == device && self.first <= page && page <= self.last
+    }
+}
+
+impl Mood {
+    /// The steps that hardware takes at most before a line of software.
+    fn most(self) -> u64
+        ensures { result ≤ 3 }
+    {
+        match self {
+            Mood::Still => 0,
+            Mood::Slow => 1,
+            Mood::Eager => 3,
+        }
+    }
+}
+
 impl Helper {
     /// Hardware that does nothing by itself.
     pub(crate) fn new(alloc: Global) -> Helper
-        ensures { is_off result ≡ true }
+        ensures off { is_off result ≡ true }
+        ensures traffic { result.traffic.items ≡ [] }
     {
         Helper {
             draws: Draws::new(0),
-            most: 0,
+            mood: Mood::Still,
             mood_lines: 0,
             traffic: Vec::new(alloc),
             steps: Vec::new(alloc),
@@ -55,7 +88,10 @@ impl Helper {
     }
 
     /// From here on it draws from this seed; from 0 it draws nothing.
-    pub(crate) fn seed(&mut self, seed: u64) {
+    pub(crate) fn seed(&mut self, seed: u64)
+        ensures off { is_off self.new ≡ (seed == 0) }
+        ensures traffic { KeepsTraffic self.old self.new }
+    {
         self.draws = Draws::new(seed);
         self.mood_lines = 0;
     }
@@ -106,70 +142,127 @@ impl Helper {
     }
 
     /// How many steps hardware takes before the next line of software.
-    pub(crate) fn count(&mut self) -> u64 {
+    pub(crate) fn count(&mut self) -> u64
+        ensures few { result ≤ 3 }
+        ensures traffic { KeepsTraffic self.old self.new }
+    {
         if self.is_off() {
             return 0;
         }
         if self.mood_lines == 0 {
-            self.most = self.draws.one_of(&MOODS).unwrap_or(0);
+            self.mood = self.draws.one_of(&MOODS).unwrap_or(Mood::Still);
             self.mood_lines = MOOD_LINES;
         }
         self.mood_lines = self.mood_lines.saturating_sub(1);
-        self.draws.below(self.most.saturating_add(1))
+        self.draws.below(self.mood.most() + 1)
     }
 
     /// The step that it takes next, of those that it can take now. None where it can take none.
-    pub(crate) fn step(&mut self, hardware: &Board) -> Result<Option<Step>, AllocError> {
+    pub(crate) fn step(&mut self, hardware: &Board) -> Result<Option<Step>, AllocError>
+        ensures { KeepsTraffic self.old self.new }
+    {
         self.steps.clear();
-        if can_fetch(hardware) {
-            self.steps.push(Step::Fetch)?;
-        }
-        self.add_commits(hardware)?;
-        for place in 0..hardware.messages().len() {
-            self.steps.push(Step::Deliver(place))?;
-        }
-        self.add_requests(hardware)?;
-        self.add_block_steps(hardware)?;
+        add_fetch(&mut self.steps, hardware)?;
+        add_commits(&mut self.steps, hardware)?;
+        add_deliveries(&mut self.steps, hardware)?;
+        add_requests(&mut self.steps, &mut self.draws, &self.traffic, hardware)?;
+        add_block_steps(&mut self.steps, hardware)?;
         Ok(self.draws.one_of(&self.steps))
     }
 
-    fn add_commits(&mut self, hardware: &Board) -> Result<(), AllocError> {
-        for device in hardware.devices.iter() {
-            if hardware.oldest(device.id).is_some() {
-                self.steps.push(Step::Commit(device.id))?;
-            }
-        }
-        Ok(())
+    /// Whether the device makes requests at the page by itself.
+    fn asks_at(&self, device: DeviceId, page: u64) -> bool
+        ensures { result ≡ asks_at self.now device page }
+    {
+        self.traffic.iter().any(|row| row.is_at(device, page))
     }
 
-    /// A block device takes a step whether it has work or not, as its own clock would have it.
-    fn add_block_steps(&mut self, hardware: &Board) -> Result<(), AllocError> {
-        for device in hardware.devices.iter() {
-            if device.kind.is_block_device() {
-                self.steps.push(Step::BlockStep(device.id))?;
+    /// Whether hardware or a device does this by itself.
+    pub(crate) fn does(&self, line: &HardwareLine) -> bool
+        ensures { result ≡ is_own (asks_at self.now) line.now }
+    {
+        let HardwareLine::Event(event) = line else {
+            return false;
+        };
+        match event {
+            Event::Fetch | Event::Commit { .. } | Event::Deliver { .. } | Event::Step { .. } =>
+                true,
+            Event::Read {
+                device,
+                address,
+                ..
             }
+            | Event::Write {
+                device,
+                address,
+                ..
+            }
+            | Event::WriteThroughCache {
+                device,
+                address,
+                ..
+            } => self.asks_at(*device, *address / PAGE_SIZE),
+            Event::Ask { device, page } => self.asks_at(*device, page.number()),
+            _ => false,
         }
-        Ok(())
     }
+}
 
-    /// For each device with traffic a page is drawn, and which request it makes there.
-    fn add_requests(&mut self, hardware: &Board) -> Result<(), AllocError> {
-        for row in self.traffic.iter() {
-            let pages = row.last.saturating_sub(row.first).saturating_add(1);
-            let page = row.first.saturating_add(self.draws.below(pages));
-            let request = match self.draws.below(2) {
-                0 => Step::Read(row.device, page),
-                _ => Step::Write(row.device, page),
-            };
-            self.steps.push(request)?;
-            let kind = hardware.kind_of(row.device);
-            if kind.is_some_and(|kind| kind.sends_through_cache()) {
-                self.steps.push(Step::Ask(row.device, page))?;
-                self.steps.push(Step::WriteThroughCache(row.device, page))?;
-            }
-        }
-        Ok(())
+fn add_fetch(steps: &mut Vec<Step>, hardware: &Board) -> Result<(), AllocError> {
+    if can_fetch(hardware) {
+        steps.push(Step::Fetch)?;
     }
+    Ok(())
+}
+
+fn add_commits(steps: &mut Vec<Step>, hardware: &Board) -> Result<(), AllocError> {
+    for device in hardware.devices.iter() {
+        if hardware.oldest(device.id).is_some() {
+            steps.push(Step::Commit(device.id))?;
+        }
+    }
+    Ok(())
+}
+
+fn add_deliveries(steps: &mut Vec<Step>, hardware: &Board) -> Result<(), AllocError> {
+    for place in 0..hardware.messages().len() {
+        steps.push(Step::Deliver(place))?;
+    }
+    Ok(())
+}
+
+/// For each device with traffic a page is drawn, and which request it makes there.
+fn add_requests(
+    steps: &mut Vec<Step>,
+    draws: &mut Draws,
+    traffic: &[Traffic],
+    hardware: &Board,
+) -> Result<(), AllocError> {
+    for row in traffic {
+        let pages = row.last.saturating_sub(row.first).saturating_add(1);
+        let page = row.first.saturating_add(draws.below(pages));
+        let request = match draws.below(2) {
+            0 => Step::Read(row.device, page),
+            _ => Step::Write(row.device, page),
+        };
+        steps.push(request)?;
+        let kind = hardware.kind_of(row.device);
+        if kind.is_some_and(|kind| kind.sends_through_cache()) {
+            steps.push(Step::Ask(row.device, page))?;
+            steps.push(Step::WriteThroughCache(row.device, page))?;
+        }
+    }
+    Ok(())
+}
+
+/// A block device takes a step whether it has work or not, as its own clock would have it.
+fn add_block_steps(steps: &mut Vec<Step>, hardware: &Board) -> Result<(), AllocError> {
+    for device in hardware.devices.iter() {
+        if device.kind.is_block_device() {
+            steps.push(Step::BlockStep(device.id))?;
+        }
+    }
+    Ok(())
 }
 
 /// Whether a command waits and the queue runs.

@@ -1,9 +1,11 @@
 // Hardware under a driver: each line happens and is answered, and between two lines hardware may act by itself.
-ghost use Rattle.std.specs.Prelude.{◌≡◌, ◌++◌, ◌∷◌, [], ℕ, List, None, true, false, IfOk, IfErr, OnOk, IfSome};
-ghost use Rattle.iom_hardware_runner.specs.Parts.{TellsLine, CameBy, RunsOn, ActsOn, MachineTakesLine, NamesNone};
-ghost use Rattle.iom_hardware_runner.specs.Runs.{is_own};
+ghost use Rattle.std.specs.Prelude.{◌≡◌, ◌&&◌, ◌++◌, ◌∷◌, [], ℕ, List, None, true, false, not, IfOk, IfErr, OnOk, IfSome};
+ghost use Rattle.std.specs.List.{AllPass};
+ghost use Rattle.iom_hardware_runner.specs.Parts.{is_off, StaysOff, asks_at, KeepsTraffic, AddsTraffic, TellsLine, Does, AreFew, CameBy, MachineTakesLine, NamesNone};
+ghost use Rattle.iom_hardware_runner.specs.Runs.{brings_to_rest, is_of_software, is_help, AreDrawn};
 ghost use Rattle.iom_hardware_script.specs.declared.script.HardwareLine.{HardwareLine as Line};
 ghost use Rattle.iom_hardware_script.specs.declared.script.HardwareLine.TheVariants as says;
+ghost use Rattle.iom_hardware_script.specs.declared.script.Help.TheVariants as helps;
 ghost use Rattle.iom_hardware_script.specs.Grammar.{IsSetupLine, IsHardwareLine};
 ghost use Rattle.iom_script.specs.Reading.{Reads};
 
@@ -36,7 +38,9 @@ enum Settling {
 }
 
 /// Whether software does this: before it hardware may act by itself.
-fn is_of_software(line: &HardwareLine) -> bool {
+fn is_of_software(line: &HardwareLine) -> bool
+    ensures { result ≡ is_of_software line.now }
+{
     match line {
         HardwareLine::RegisterRead { .. }
         | HardwareLine::RegisterWrite { .. }
@@ -54,24 +58,33 @@ fn read(alloc: Global, text: &[u8]) -> Result<Option<HardwareLine>, RunFault>
     line_of(alloc, text).map_err(|_| RunFault::Memory)
 }
 
-/// Whether hardware or a device does this by itself.
-fn is_own(line: &HardwareLine) -> bool
-    ensures { result ≡ is_own line.now }
+/// Whether this brings hardware to rest: a command is taken, an access made, or the first message delivered.
+fn brings_to_rest(line: &HardwareLine) -> bool
+    ensures { result ≡ brings_to_rest line.now }
 {
     match line {
-        HardwareLine::Event(event) => matches!(
-            event,
-            Event::Fetch
-                | Event::Commit { .. }
-                | Event::Deliver { .. }
-                | Event::Read { .. }
-                | Event::Write { .. }
-                | Event::Ask { .. }
-                | Event::WriteThroughCache { .. }
-                | Event::Step { .. }
-        ),
+        HardwareLine::Event(Event::Fetch | Event::Commit { .. }) => true,
+        HardwareLine::Event(Event::Deliver { place }) => *place == 0,
         _ => false,
     }
+}
+
+/// Appends how many things hardware did on the way to rest, and how many of them were violations.
+fn put_quiet(
+    alloc: Global,
+    steps: u64,
+    violations: u64,
+    output: &mut Output,
+) -> Result<(), RunFault>
+    ensures named { IfErr result NamesNone }
+{
+    let quiet = format!(in alloc; "quiet {steps}").map_err(|_| RunFault::Memory)?;
+    output.answer(quiet.as_bytes())?;
+    if violations > 0 {
+        let violated = format!(in alloc; "; violated {violations} times");
+        output.answer(violated.map_err(|_| RunFault::Memory)?.as_bytes())?;
+    }
+    output.answer(b"\n")
 }
 
 impl Machine {
@@ -118,11 +131,24 @@ impl Machine {
             self.help(help, text, output)?;
             return Ok(true);
         }
+        self.happen(said, text, output)?;
+        Ok(true)
+    }
+
+    /// A line happens that asks for no help, behind steps that hardware takes by itself.
+    fn happen(
+        &mut self,
+        said: HardwareLine,
+        text: &[u8],
+        output: &mut Output,
+    ) -> Result<(), RunFault>
+        ensures taken { is_help said ≡ false → OnOk result (MachineTakesLine self.old said self.new) }
+        ensures named { IfErr result NamesNone }
+    {
         self.act_before(&said, output)?;
         let words = self.tell(said, output)?;
         self.answer(&words, output)?;
-        output.log(b"", text)?;
-        Ok(true)
+        output.log(b"", text)
     }
 
     /// A line happens, as the next of the log. The words behind its answer.
@@ -153,13 +179,13 @@ impl Machine {
 
     /// Hardware takes the step that is drawn next, if it can take one.
     fn act_once(&mut self, output: &mut Output) -> Result<(), RunFault>
-        ensures acts { OnOk result (ActsOn self.old self.new) }
+        ensures acts { OnOk result (Does (AreFew (asks_at self.old.helper) 1) self.old.teller self.new.teller) }
+        ensures traffic { KeepsTraffic self.old.helper self.new.helper }
         ensures named { IfErr result NamesNone }
     {
-        let step = self
-            .helper
-            .step(self.teller.session.hardware())
-            .map_err(|_| RunFault::Memory)?;
+        let Ok(step) = self.helper.step(self.teller.session.hardware()) else {
+            return Err(RunFault::Memory);
+        };
         match step {
             Some(step) => self.take_step(step, output),
             None => Ok(()),
@@ -168,10 +194,11 @@ impl Machine {
 
     /// Hardware takes so many steps by itself.
     fn act_often(&mut self, count: u64, output: &mut Output) -> Result<(), RunFault>
-        ensures acts { OnOk result (ActsOn self.old self.new) }
+        ensures acts { OnOk result (Does (AreFew (asks_at self.old.helper) count) self.old.teller self.new.teller) }
+        ensures traffic { KeepsTraffic self.old.helper self.new.helper }
         ensures named { IfErr result NamesNone }
     {
-        for _ in 0..count {
+        for _taken in 0..count {
             self.act_once(output)?;
         }
         Ok(())
@@ -179,7 +206,9 @@ impl Machine {
 
     /// Hardware takes as many steps by itself as are drawn.
     fn act(&mut self, output: &mut Output) -> Result<(), RunFault>
-        ensures runs { OnOk result (RunsOn self.old self.new) }
+        ensures acts { OnOk result (Does (AreDrawn (asks_at self.old.helper) (not (is_off self.old.helper))) self.old.teller self.new.teller) }
+        ensures off { StaysOff self.old.helper self.new.helper }
+        ensures traffic { KeepsTraffic self.old.helper self.new.helper }
         ensures named { IfErr result NamesNone }
     {
         if self.helper.is_off() {
@@ -191,7 +220,9 @@ impl Machine {
 
     /// Before what software does hardware may act by itself.
     fn act_before(&mut self, said: &HardwareLine, output: &mut Output) -> Result<(), RunFault>
-        ensures runs { OnOk result (RunsOn self.old self.new) }
+        ensures acts { OnOk result (Does (AreDrawn (asks_at self.old.helper) (not (is_off self.old.helper) && is_of_software said.now)) self.old.teller self.new.teller) }
+        ensures off { StaysOff self.old.helper self.new.helper }
+        ensures traffic { KeepsTraffic self.old.helper self.new.helper }
         ensures named { IfErr result NamesNone }
     {
         if is_of_software(said) {
@@ -203,33 +234,42 @@ impl Machine {
 
     /// What the text says happens. The words behind its answer; None where hardware does no such thing by itself.
     fn tell_step(&mut self, text: &str, output: &Output) -> Result<Option<String>, RunFault>
-        ensures acts { OnOk result (ActsOn self.old self.new) }
+        ensures acts { OnOk result (Does (AreFew (asks_at self.old.helper) 1) self.old.teller self.new.teller) }
+        ensures helper { self.new.helper ≡ self.old.helper }
         ensures named { IfErr result NamesNone }
     {
         let Some(said) = read(self.alloc, text.as_bytes())? else {
             return Ok(None);
         };
-        if !is_own(&said) {
+        if !self.helper.does(&said) {
             return Ok(None);
         }
         let words = self.tell(said, output)?;
         Ok(Some(words))
     }
 
+    /// Appends the step that was taken, as a comment, and as a line of the log.
+    fn put_step(&self, text: &str, words: &str, output: &mut Output) -> Result<(), RunFault>
+        ensures named { IfErr result NamesNone }
+    {
+        output.answer(b"# ")?;
+        output.answer(text.as_bytes())?;
+        output.answer(b" => ")?;
+        self.answer(words, output)?;
+        output.log(b"", text.as_bytes())
+    }
+
     /// A step happens, and is told as a comment.
     fn take_step(&mut self, step: Step, output: &mut Output) -> Result<(), RunFault>
-        ensures acts { OnOk result (ActsOn self.old self.new) }
+        ensures acts { OnOk result (Does (AreFew (asks_at self.old.helper) 1) self.old.teller self.new.teller) }
+        ensures helper { self.new.helper ≡ self.old.helper }
         ensures named { IfErr result NamesNone }
     {
         let text = format!(in self.alloc; "{step}").map_err(|_| RunFault::Memory)?;
         let Some(words) = self.tell_step(&text, output)? else {
             return Ok(());
         };
-        output.answer(b"# ")?;
-        output.answer(text.as_bytes())?;
-        output.answer(b" => ")?;
-        self.answer(&words, output)?;
-        output.log(b"", text.as_bytes())
+        self.put_step(&text, &words, output)
     }
 
     /// Hardware is asked to act by itself. A line after which it draws is a comment of the log, which has what was drawn.
@@ -267,11 +307,15 @@ impl Machine {
         output: &mut Output,
     ) -> Result<(), RunFault>
         ensures teller { self.new.teller ≡ self.old.teller }
+        ensures off { is_off self.new.helper ≡ is_off self.old.helper }
+        ensures added { OnOk result (AddsTraffic (helps.Traffic device first last) self.old.helper self.new.helper) }
         ensures named { IfErr result NamesNone }
     {
         let hardware = self.teller.session.hardware();
-        let directed = self.helper.direct(hardware, device, first, last);
-        match directed.map_err(|_| RunFault::Memory)? {
+        let Ok(directed) = self.helper.direct(hardware, device, first, last) else {
+            return Err(RunFault::Memory);
+        };
+        match directed {
             Ok(()) => output.answer(b"ok\n"),
             Err(why) => {
                 let text = format!(in self.alloc; "{why}\n").map_err(|_| RunFault::Memory)?;
@@ -280,10 +324,33 @@ impl Machine {
         }
     }
 
+    /// The same on the way to rest, where less is done.
+    fn tell_settling(&mut self, text: &str, output: &Output) -> Result<Option<String>, RunFault>
+        ensures rests { OnOk result (Does (AllPass brings_to_rest) self.old.teller self.new.teller) }
+        ensures helper { self.new.helper ≡ self.old.helper }
+        ensures named { IfErr result NamesNone }
+    {
+        let Some(said) = read(self.alloc, text.as_bytes())? else {
+            return Ok(None);
+        };
+        if !brings_to_rest(&said) {
+            return Ok(None);
+        }
+        let words = self.tell(said, output)?;
+        Ok(Some(words))
+    }
+
+    /// Whether the step took no command: the head of the queue is where it was.
+    fn is_stuck(&self, step: Step, head: u32) -> bool {
+        let hardware = self.teller.session.hardware();
+        matches!(step, Step::Fetch) && hardware.iommu.registers().command_head() == head
+    }
+
     /// Takes the next step of those that bring hardware to rest. Whether it did something, and whether that was a
     /// violation.
     fn settle_once(&mut self, output: &Output) -> Result<Settling, RunFault>
-        ensures acts { OnOk result (ActsOn self.old self.new) }
+        ensures rests { OnOk result (Does (AllPass brings_to_rest) self.old.teller self.new.teller) }
+        ensures helper { self.new.helper ≡ self.old.helper }
         ensures named { IfErr result NamesNone }
     {
         let hardware = self.teller.session.hardware();
@@ -292,11 +359,10 @@ impl Machine {
             return Ok(Settling::Rests);
         };
         let text = format!(in self.alloc; "{step}").map_err(|_| RunFault::Memory)?;
-        let Some(words) = self.tell_step(&text, output)? else {
+        let Some(words) = self.tell_settling(&text, output)? else {
             return Ok(Settling::Rests);
         };
-        let hardware = self.teller.session.hardware();
-        if step == Step::Fetch && hardware.iommu.registers().command_head() == head {
+        if self.is_stuck(step, head) {
             return Ok(Settling::Rests);
         }
         // Nothing but a violation has words behind the answer of a step.
@@ -309,7 +375,8 @@ impl Machine {
 
     /// Hardware goes on until it rests. How many things it did, and how many of them were violations.
     fn settle(&mut self, output: &Output) -> Result<(u64, u64), RunFault>
-        ensures acts { OnOk result (ActsOn self.old self.new) }
+        ensures rests { OnOk result (Does (AllPass brings_to_rest) self.old.teller self.new.teller) }
+        ensures helper { self.new.helper ≡ self.old.helper }
         ensures named { IfErr result NamesNone }
     {
         let mut steps = 0u64;
@@ -327,16 +394,11 @@ impl Machine {
 
     /// Hardware comes to rest: what is in flight is made, what is under way delivered, and commands are taken.
     fn quiesce(&mut self, output: &mut Output) -> Result<(), RunFault>
-        ensures acts { OnOk result (ActsOn self.old self.new) }
+        ensures rests { OnOk result (Does (AllPass brings_to_rest) self.old.teller self.new.teller) }
+        ensures helper { self.new.helper ≡ self.old.helper }
         ensures named { IfErr result NamesNone }
     {
         let (steps, violations) = self.settle(output)?;
-        let quiet = format!(in self.alloc; "quiet {steps}").map_err(|_| RunFault::Memory)?;
-        output.answer(quiet.as_bytes())?;
-        if violations > 0 {
-            let violated = format!(in self.alloc; "; violated {violations} times");
-            output.answer(violated.map_err(|_| RunFault::Memory)?.as_bytes())?;
-        }
-        output.answer(b"\n")
+        put_quiet(self.alloc, steps, violations, output)
     }
 }

@@ -6,7 +6,7 @@ use std::fmt;
 const PAGE_SIZE: u64 = 4096;
 
 /// One thing that hardware or a device does by itself. Its text is a line of a script.
-#[derive(Clone, Copy, PartialEq, Eq, Debug)]
+#[derive(Clone, Copy)]
 pub(crate) enum Step {
     Fetch,
     Commit(DeviceId),

@@ -1,18 +1,27 @@
-use Rattle.std.proofs.Common.{refl, ap}
-use Rattle.iom_hardware_runner.proofs.RunLemmas.{on_ok, takes_help, takes_asked}
-use Rattle.iom_hardware_runner.specs.declared.teller.Teller.{Teller}
+use Rattle.std.proofs.Common.{refl, sym, subst}
+use Rattle.iom_hardware_runner.proofs.RunLemmas.{on_ok, takes_auto, takes_traffic, takes_quiesce}
+use Rattle.iom_hardware_runner.specs.Parts.{MachineTakesLine}
+use Rattle.iom_hardware_runner.specs.declared.machine.Machine.{Machine}
+use Rattle.iom_hardware_script.specs.declared.script.HardwareLine.TheVariants as line
+use Rattle.iom_hardware_script.specs.declared.script.Help.{Help}
 use Rattle.iom_hardware_runner.proofs.machine.Machine.help.Goals as goal
 
 pub returns-in_ok-answer-in-Auto-clause-taken : goal.returns-in_ok-answer-in-Auto-clause-taken
 returns-in_ok-answer-in-Auto-clause-taken c =
-    on_ok c.log.result (takes_help c.args.self.now (record { alloc = c.args.self.now.alloc; teller = c.args.self.now.teller; helper = c.seed.new.self }) c.args.help refl refl)
+    let new : Machine = record { alloc = c.args.self.now.alloc; teller = c.args.self.now.teller; helper = c.seed.new.self } in
+    on_ok c.log.result
+    (subst (λ (h : Help). MachineTakesLine c.args.self.now (line.Help h) new) (sym c.in-Auto.is)
+    (takes_auto c.args.self.now new c.in-Auto.seed refl c.seed.ensures.off c.seed.ensures.traffic))
 
 pub returns-in_ok-direct-in-Traffic-clause-taken : goal.returns-in_ok-direct-in-Traffic-clause-taken
 returns-in_ok-direct-in-Traffic-clause-taken c =
     on_ok c.log-in-Traffic.result
-    (takes_help c.args.self.now c.direct.new.self c.args.help (ap (λ (t : Teller). t.session) c.direct.ensures.teller) (ap (λ (t : Teller). t.is_wrong) c.direct.ensures.teller))
+    (subst (λ (h : Help). MachineTakesLine c.args.self.now (line.Help h) c.direct.new.self) (sym c.in-Traffic.is)
+    (takes_traffic c.args.self.now c.direct.new.self c.in-Traffic.device c.in-Traffic.first c.in-Traffic.last c.direct.ensures.teller c.direct.ensures.off
+    c.in_ok-direct-in-Traffic.ensures.added))
 
 pub returns-in_ok-quiesce-in-Quiesce-clause-taken : goal.returns-in_ok-quiesce-in-Quiesce-clause-taken
 returns-in_ok-quiesce-in-Quiesce-clause-taken c =
     on_ok c.log-in-Quiesce.result
-    (takes_asked c.args.self.now c.args.self.now c.quiesce.new.self c.args.help (takes_help c.args.self.now c.args.self.now c.args.help refl refl) c.in_ok-quiesce-in-Quiesce.ensures.acts)
+    (subst (λ (h : Help). MachineTakesLine c.args.self.now (line.Help h) c.quiesce.new.self) (sym c.in-Quiesce.is)
+    (takes_quiesce c.args.self.now c.quiesce.new.self c.in_ok-quiesce-in-Quiesce.ensures.rests c.quiesce.ensures.helper))

@@ -1,6 +1,9 @@
-use Rattle.iom_hardware_runner.specs.Parts.{ActsOn}
+use Rattle.std.proofs.Common.{◌≡◌}
+use Rattle.std.specs.List.{AllPass}
+use Rattle.iom_hardware_runner.specs.Parts.{Does}
+use Rattle.iom_hardware_runner.specs.Runs.{brings_to_rest}
 use Rattle.iom_hardware_runner.proofs.machine.Machine.settle.Given as goal
 
--- hardware acted by itself so far
+-- hardware came closer to rest so far, and drew nothing
 abbrev pub invariant-loop : goal.invariant-loop
-invariant-loop l = ActsOn l.fn.self l.self
+invariant-loop l = Does (AllPass brings_to_rest) l.fn.self.teller l.self.teller × (l.self.helper ≡ l.fn.self.helper)
