@@ -63,7 +63,8 @@ is_off helper = helper.draws.last == 0
 abbrev pub StaysOff : Helper → Helper → Type 0
 StaysOff old new = is_off new ≡ false → is_off old ≡ false
 
--- these lines were said, and the machine has run what they spell out; numbers are drawn only where hardware acts by itself, and devices ask only where a line says so
+-- these lines were said, and the machine has run what they spell out; numbers are drawn only where hardware acts by itself,
+-- and devices ask only where a line says so
 pub record CameBy (frames : ℕ) (said : List HardwareLine) (machine : Machine) : Type 0 where
   pub ran : List HardwareLine
   pub spells : SpellsOut said ran

@@ -25,8 +25,8 @@ is_traffic_at device page said = false
 abbrev pub has_traffic : List HardwareLine → (device page : ℕ) → Bool
 has_traffic said device page = list_any (is_traffic_at device page) said
 
--- hardware or a device does this by itself: a command is taken, an access made, a message delivered, a block device takes a step, or a device asks for something at a page
--- where it may
+-- hardware or a device does this by itself: a command is taken, an access made, a message delivered, a block device takes a step,
+-- or a device asks for something at a page where it may
 abbrev pub is_own : (may : ℕ → ℕ → Bool) → HardwareLine → Bool
 is_own may (line.Event Fetch) = true
 is_own may (line.Event (Commit device)) = true
@@ -78,8 +78,8 @@ abbrev pub AreAskedFor : Help → List HardwareLine → Type 0
 AreAskedFor Quiesce own = AllPass brings_to_rest own
 AreAskedFor help own = own ≡ []
 
--- WHAT RAN is what was said, in its order, with what hardware does by itself in between: before a line of software, where it acts by itself, and behind a `quiesce`.
--- A line that asks for that doesn't run itself
+-- WHAT RAN is what was said, in its order, with what hardware does by itself in between: before a line of software, where it acts by itself,
+-- and behind a `quiesce`. A line that asks for that doesn't run itself
 pub data SpellsOut : List HardwareLine → List HardwareLine → Type 0 where
   Nothing : SpellsOut [] []
   Line : (said ran own : List HardwareLine) (next : HardwareLine) → SpellsOut said ran → is_help next ≡ false → AreDrawn (has_traffic said) (acts said && is_of_software next) own
