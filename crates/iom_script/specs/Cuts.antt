@@ -1,5 +1,5 @@
 -- A line taken apart from the left: what the private functions between the words and the events return. No public contract cites it.
-use Rattle.std.specs.Prelude.{◌≡◌, ◌≢◌, ℕ, ◌+◌, ◌-◌, ◌*◌, ◌%◌, ◌^◌, ◌<◌, ◌≤◌, min, All, List, [], ◌∷◌, ◌++◌, codes, length, take, slice_index, Contains, Option, option_map}
+use Rattle.std.specs.Prelude.{◌≡◌, ◌≢◌, ℕ, ◌+◌, ◌-◌, ◌*◌, ◌%◌, ◌^◌, ◌<◌, ◌≤◌, max, bit_xor, All, List, [], ◌∷◌, ◌++◌, codes, length, take, slice_index, Contains, Option, option_map}
 use Rattle.std.specs.Borrow.{Bor}
 use Rattle.std.specs.Int.{IsInRange}
 use Rattle.std.specs.Str.Parse.{AllDigits, digits_value}
@@ -137,9 +137,13 @@ starts_under_s = codes "step " ∷ codes "status " ∷ []
 abbrev pub starts_under_t : List (List ℕ)
 starts_under_t = codes "tread " ∷ codes "twrite " ∷ []
 
--- the value of a byte as a lower-case hexadecimal digit, or more than 15
+-- the value of a byte as a lower-case hexadecimal digit, and 240; or less than 240
 abbrev pub value_of_digit : ℕ → ℕ
-value_of_digit byte = min (((byte + 198) % 256 - 6 + 16) % 256) (255 - ((352 - byte) % 256 - 10))
+value_of_digit byte = max ((byte + 198) % 256 - 6) (bit_xor ((352 - byte) % 256 - 10) 15)
+
+-- and the digit of such a value
+abbrev pub digit_of_value : ℕ → ℕ
+digit_of_value value = hex_digit (value - 240)
 
 -- the digits say the bytes
 abbrev pub IsHexOf : List ℕ → List ℕ → Type 0

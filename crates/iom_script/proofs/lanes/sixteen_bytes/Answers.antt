@@ -1,7 +1,6 @@
 use Rattle.std.proofs.Common.{◌≡◌, map, sym, subst, ap, ◌∙◌, take_all, arith}
 use Rattle.std.proofs.lemmas.Bool.{false≢true}
-use Rattle.iom_script.specs.Digits.{hex_digit}
-use Rattle.iom_script.specs.Cuts.{value_of_digit, IsHexOf}
+use Rattle.iom_script.specs.Cuts.{digit_of_value, value_of_digit, IsHexOf}
 use Rattle.iom_script.proofs.LaneLemmas.{AreValues, slice_bytes, hex_read, hex_not_read}
 use Rattle.iom_script.proofs.lanes.sixteen_bytes.Goals as goal
 
@@ -10,7 +9,7 @@ returns-then-are_all_values c =
     let text = c.args.digits.now in
     let are : c.values_of-values.result ≡ map value_of_digit text = c.values_of-values.ensures ∙ ap (map value_of_digit) (take_all 32 text (omega arith)) in
     hex_read text c.all_joined.result (slice_bytes text c.type_inv.digits) (subst AreValues are (c.are_all_values.ensures.0 c.if-are_all_values.true))
-    (subst (λ values. IsHexOf (map hex_digit values) c.all_joined.result) are c.all_joined.ensures)
+    (subst (λ values. IsHexOf (map digit_of_value values) c.all_joined.result) are c.all_joined.ensures)
 
 pub returns-else-are_all_values : goal.returns-else-are_all_values
 returns-else-are_all_values c =
