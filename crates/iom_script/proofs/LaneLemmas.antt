@@ -2,15 +2,15 @@
 use Rattle.std.proofs.Common.{◌≡◌, ℕ, zero, suc, ◌+◌, ◌-◌, ◌*◌, ◌/◌, ◌%◌, ◌^◌, ◌<◌, ◌≤◌, ◌↔◌, true, not, cond, ◌||◌, nat_eq, ltb, leb, bit_xor, List, [], ◌∷◌, ◌++◌, map, length, take, drop, get_or, replicate, T, Fits, w8, IsTrue, Some, None, inl, inr, refl, ap, sym, subst, ◌∙◌, arith, ltb-true, ltb-false, leb-true}
 use Rattle.std.specs.List.{All, AllByRecursion, range_with_len}
 use Rattle.std.proofs.lemmas.Bool.{cases_Bool, agree_below_at, eq-eqb, eqb-true, le-ltb, le-leb}
-use Rattle.std.proofs.lemmas.List.Elements.{All-nil, All-cons, All-head, All-tail}
-use Rattle.std.proofs.lemmas.List.{take_all, take-append-drop, length-drop, length-take-le}
+use Rattle.std.proofs.lemmas.List.Elements.{All-nil, All-cons, All-head, All-tail, All-append}
+use Rattle.std.proofs.lemmas.List.{map-append, take_all, take-append-drop, length-drop, length-map, length-take-le}
 use Rattle.std.proofs.lemmas.Simd.{bitmask_splat, Each1-from_get_or, pick_l_left, pick_l-range_with_len}
 use lib.Lanes.{Each1, zip2, pick_l, all_below, sel_l, mask_l, top, number_l, digits_l}
 use Rattle.iom_script.specs.Digits.{hex_digit, hex_of}
 use Rattle.iom_script.specs.Reading.{Reads}
 use Rattle.iom_script.specs.Cuts.{digit_of_value, value_of_digit, IsHexOf}
 use Rattle.iom_script.proofs.ReadsLemmas.{reads_some, reads_none}
-use Rattle.iom_script.proofs.HexBytesLemmas.{IsByte, same_hex_of}
+use Rattle.iom_script.proofs.HexBytesLemmas.{IsByte, hex_of_append, same_hex_of}
 
 -- what the operators on vectors do in a lane
 abbrev minus : ℕ → ℕ → ℕ
@@ -220,3 +220,27 @@ halves_are_values xs long =
       λ none. have.0 (subst AreValues both (lanes.0 none)),
       λ all. lanes.1 (subst AreValues (sym both) (have.1 all)),
     )
+
+-- TWO HALVES OF A TEXT
+
+pub half_is : (text : List ℕ) → length text ≡ 128 → take 64 (drop 64 text) ≡ drop 64 text
+half_is text long = take_all 64 (drop 64 text) (omega (arith, long, length-drop 64 text))
+
+pub values_are_64 : (text values : List ℕ) → length text ≡ 64 → values ≡ map value_of_digit text → length values ≡ 64
+values_are_64 text values long is = ap length is ∙ length-map text value_of_digit ∙ long
+
+bytes_cut : (xs ys : List ℕ) → AreBytes (xs ++ ys) → AreBytes xs × AreBytes ys
+bytes_cut [] ys all = (tt, all)
+bytes_cut (x ∷ xs) ys all = let more = bytes_cut xs ys all.1 in ((all.0, more.0), more.1)
+
+pub both_said : (text front back first second : List ℕ) → text ≡ front ++ back → AreBytes text → AreValues (map value_of_digit front) → AreValues (map value_of_digit back)
+    → IsHexOf (map digit_of_value (map value_of_digit front)) first → IsHexOf (map digit_of_value (map value_of_digit back)) second → IsHexOf text (first ++ second)
+both_said text front back first second cut fit all_front all_back said_first said_second =
+    let fits = bytes_cut front back (subst AreBytes cut fit) in (
+      All-append IsByte first second said_first.0 said_second.0,
+      cut ∙ (λ i. (sym (digits_back front fits.0 all_front) ∙ said_first.1) i ++ (sym (digits_back back fits.1 all_back) ∙ said_second.1) i) ∙ sym (hex_of_append first second),
+    )
+
+pub both_not_said : (text front back : List ℕ) → text ≡ front ++ back → (AreValues (map value_of_digit front) × AreValues (map value_of_digit back) → ⊥) → Reads None (IsHexOf text)
+both_not_said text front back cut none =
+    hex_not_read text (λ all. none (values_cut (map value_of_digit front) (map value_of_digit back) (subst AreValues (ap (map value_of_digit) cut ∙ map-append value_of_digit front back) all)))

@@ -1,9 +1,11 @@
-//! Sixteen hexadecimal digits at once, or 32, or 64.
-ghost use Rattle.std.specs.Prelude.{◌≡◌, ◌≤◌, ◌↔◌, length, map, IsTrue};
+//! Sixteen hexadecimal digits at once, or 32, or 128.
+ghost use Rattle.std.specs.Prelude.{◌≡◌, ◌≤◌, ◌+◌, ◌++◌, ◌↔◌, ℕ, List, length, map, take, IsTrue, None};
+ghost use Rattle.std.specs.Bool.{MatchBool};
 ghost use Rattle.std.specs.List.{AllByRecursion};
 ghost use Rattle.iom_script.specs.Reading.{Reads};
 ghost use Rattle.iom_script.specs.Cuts.{digit_of_value, value_of_digit, IsHexOf};
 
+use crate::buffer::write_at;
 use std::simd::prelude::*;
 
 /// The value of each byte as a lower-case hexadecimal digit, and 240; or less, where it is none.
@@ -100,15 +102,22 @@ pub fn sixteen_bytes(digits: &[u8]) -> Option<[u8; 16]>
     }
 }
 
-/// The 32 bytes that 64 hexadecimal digits say.
-pub(crate) fn bytes_of_64(digits: &[u8]) -> Option<[u8; 32]>
-    requires { length digits.now ≡ 64 }
-    ensures { Reads result (IsHexOf digits.now) }
+/// Writes from the place on the 64 bytes that 128 hexadecimal digits say. False where they don't.
+#[inline(always)]
+pub(crate) fn put_64(places: &mut [u8], place: usize, digits: &[u8]) -> bool
+    requires digits { length digits.now ≡ 128 }
+    requires room { place + 64 ≤ length places.old }
+    ensures len { length places.new ≡ length places.old }
+    ensures said { MatchBool result ((bytes : List ℕ) × IsHexOf digits.now bytes × (take (place + 64) places.new ≡ take place places.old ++ bytes)) (Reads None (IsHexOf digits.now)) }
 {
-    let values = values_of(u8x64::from_slice(digits));
-    if are_values_of_64(values) {
-        Some(joined_of_64(values))
-    } else {
-        None
+    let first = values_of(u8x64::from_slice(digits));
+    let second = values_of(u8x64::from_slice(&digits[64..]));
+    if !are_values_of_64(first.simd_min(second)) {
+        return false;
     }
+    let front = joined_of_64(first);
+    let back = joined_of_64(second);
+    write_at(places, place, &front);
+    write_at(places, place + 32, &back);
+    true
 }

@@ -9,7 +9,7 @@ ghost use Rattle.iom_script.specs.Cuts.{shown, shown_rest, with_rest, IsCut, Beg
 
 use crate::buffer::write_at;
 pub use crate::lanes::eight_bytes;
-use crate::lanes::{bytes_of_64, sixteen_bytes};
+use crate::lanes::{put_64, sixteen_bytes};
 use iom_base::{DeviceId, GrantRights, Mode, NewDevice, Sequence, Size};
 use iom_fabric::PageNumber;
 use memchr::{memchr, memchr_iter};
@@ -292,7 +292,23 @@ pub fn byte_of(high: u8, low: u8) -> Option<u8>
     Some(high * 16 + low)
 }
 
-/// Writes the bytes that whole groups of 32 digits say, two groups at a time. False where they don't.
+/// Writes the bytes that whole groups of 128 digits say. False where they don't.
+// Written into its caller, as its loop is most of that.
+#[inline(always)]
+fn put_wide(places: &mut [u8], text: &[u8]) -> bool
+    requires { length text.now ≡ 2 * length places.old }
+    ensures len { length places.new ≡ length places.old }
+    ensures said { MatchBool result (SaysFirst text.now (64 * (length text.now / 128)) (take (64 * (length text.now / 128)) places.new)) (Reads None (IsHex text.now)) }
+{
+    for group in 0..text.len() / 128 {
+        if !put_64(places, 64 * group, &text[128 * group..128 * group + 128]) {
+            return false;
+        }
+    }
+    true
+}
+
+/// Writes the bytes that whole groups of 32 digits say, four groups at a time where there are four. False where they don't.
 // Written into its caller, as its loop is most of that.
 #[inline(always)]
 fn put_groups(places: &mut [u8], text: &[u8]) -> bool
@@ -300,19 +316,14 @@ fn put_groups(places: &mut [u8], text: &[u8]) -> bool
     ensures len { length places.new ≡ length places.old }
     ensures said { MatchBool result (SaysFirst text.now (16 * (length text.now / 32)) (take (16 * (length text.now / 32)) places.new)) (Reads None (IsHex text.now)) }
 {
-    let pairs = text.len() / 64;
-    for pair in 0..pairs {
-        match bytes_of_64(&text[64 * pair..64 * pair + 64]) {
-            Some(bytes) => write_at(places, 32 * pair, &bytes),
+    if !put_wide(places, text) {
+        return false;
+    }
+    for group in 4 * (text.len() / 128)..text.len() / 32 {
+        match sixteen_bytes(&text[32 * group..32 * group + 32]) {
+            Some(sixteen) => write_at(places, 16 * group, &sixteen),
             None => return false,
         }
-    }
-    if text.len() / 32 == 2 * pairs {
-        return true;
-    }
-    match sixteen_bytes(&text[64 * pairs..64 * pairs + 32]) {
-        Some(sixteen) => write_at(places, 32 * pairs, &sixteen),
-        None => return false,
     }
     true
 }
