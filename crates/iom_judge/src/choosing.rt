@@ -83,16 +83,11 @@ fn list_of(alloc: Global, frames: &[u64]) -> Result<Sequence<u64>, AllocError>
     Ok(Sequence::from_vec(Vec::from_slice(alloc, frames)?))
 }
 
-/// The access, once more.
-fn copy_of(alloc: Global, access: &Access) -> Result<Access, AllocError>
-    ensures { IfOk result (λ copy. copy ≡ access.now) }
+/// The access that a step begins where this is chosen: the one that is shown, where one is.
+pub(crate) fn begun_by<'a>(reply: &Reported<'a>, choice: &'a Choice) -> &'a Access
+    ensures { result.now ≡ option_map_or (λ access. access) (option_copied reply.now.shown.began) choice.now.access }
 {
-    Ok(Access {
-        address: access.address,
-        len: access.len,
-        kind: access.kind,
-        bytes: Sequence::from_vec(Vec::from_slice(alloc, access.bytes.as_slice())?),
-    })
+    reply.shown.began.unwrap_or(&choice.access)
 }
 
 /// How many frames the root of a device's tables has.
@@ -133,9 +128,6 @@ fn choose_shown(alloc: Global, choice: &mut Choice, reply: &Reported<'_>) -> Res
     let shown = &reply.shown;
     if !choice.returned.as_slice().is_empty() || !shown.freed.is_empty() {
         choice.returned = list_of(alloc, shown.freed)?;
-    }
-    if let Some(access) = shown.began {
-        choice.access = copy_of(alloc, access)?;
     }
     if let Some(frame) = shown.on {
         choice.frame = frame;

@@ -54,8 +54,7 @@ fn take_said<'x>(
 /// What the reading of a line takes, for line after line.
 #[derive(Drop)]
 struct Reading {
-    /// In a box of its own: it has room for an answer of each kind.
-    outcomes: Box<KeptOutcomes>,
+    outcomes: KeptOutcomes,
     tables: Vec<u64>,
     began: Option<Access>,
 }
@@ -63,7 +62,7 @@ struct Reading {
 impl Reading {
     fn new(alloc: Global) -> io::Result<Reading> {
         Ok(Reading {
-            outcomes: Box::new(alloc, KeptOutcomes::new(alloc)?)?,
+            outcomes: KeptOutcomes::new(alloc)?,
             tables: Vec::new(alloc),
             began: None,
         })

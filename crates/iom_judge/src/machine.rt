@@ -6,7 +6,7 @@ ghost use Rattle.iom_judge.specs.Certified.{first_in, is_given, Continues, Follo
 ghost use Rattle.iom_judge.specs.Happenings.{is_used, Came};
 ghost use Rattle.iom_judge.specs.Sharing.{is_this, own_domain};
 
-use crate::choosing::{Chosen, Reported, Shown, Tables, where_shown};
+use crate::choosing::{Chosen, Reported, Shown, Tables, begun_by, where_shown};
 use crate::domains::Domains;
 use crate::guesses::Guesses;
 use crate::handed::Handed;
@@ -95,7 +95,15 @@ impl TraceMachine {
         }
         self.kept.limits = WorldLimits::Unlimited.to_limits();
         let choice = &self.chosen.choice;
-        let may_come = judge(alloc, &mut self.kept, reply.event, reply.outcome, choice)?;
+        let access = begun_by(reply, choice);
+        let may_come = judge(
+            alloc,
+            &mut self.kept,
+            reply.event,
+            reply.outcome,
+            choice,
+            access,
+        )?;
         self.kept.limits = limits;
         Ok(may_come)
     }
@@ -135,6 +143,7 @@ impl TraceMachine {
             reply.event,
             reply.outcome,
             choice,
+            begun_by(reply, choice),
         )? {
             return Err(self.refusal(line, reply)?);
         }

@@ -1,6 +1,6 @@
 -- The steps that the judge decides together: those of events of one sort.
 -- For the judge's own functions alone; no public contract cites these.
-use Rattle.std.specs.Prelude.{◌≡◌, Bool, true, false}
+use Rattle.std.specs.Prelude.{◌≡◌, ℕ, Bool, true, false}
 use Rattle.iom_base.specs.Accesses.{read_of, write_of}
 use Rattle.iom_base.specs.DeviceKinds.{is_block_device, sends_untranslated, forges, sends_through_cache, asks_questions, is_any_kind}
 use Rattle.iom_base.specs.declared.access.Access.{Access}
@@ -67,19 +67,19 @@ asked_by (events.WriteThroughCache id address bytes) = write_of address bytes
 asked_by _ = read_of 0 0
 
 -- what comes of the act of a device that is plugged in and can do what the event asks; no other event is an act
-abbrev pub ActStep : Choice → Event → Device → State → Outcome → State → Type 0
-ActStep choice (events.Read id address len) device old outcome new = IsAnswered false old device (read_of address len) choice.frame outcome new
-ActStep choice (events.Write id address bytes) device old outcome new = IsAnswered false old device (write_of address bytes) choice.frame outcome new
-ActStep choice (events.ReadTranslated id address len) device old outcome new = MayAnswerTranslated old device (read_of address len) outcome × (new ≡ old)
-ActStep choice (events.WriteTranslated id address bytes) device old outcome new = MayAnswerTranslated old device (write_of address bytes) outcome × (new ≡ old)
-ActStep choice (events.ReadThroughCache id address len) device old outcome new = IsAnswered true old device (read_of address len) choice.frame outcome new
-ActStep choice (events.WriteThroughCache id address bytes) device old outcome new = IsAnswered true old device (write_of address bytes) choice.frame outcome new
-ActStep choice (events.Ask id page) device old outcome new = Sends old outcome new
-ActStep choice (events.Forge id serial) device old outcome new = Sends old outcome new
-ActStep choice (events.Reset id) device old outcome new = (outcome ≡ Done) × (new ≡ old)
-ActStep choice (events.Medium id disk) device old outcome new = Inserts disk old device outcome new
-ActStep choice (events.Queue id size descriptors available used) device old outcome new = MaySet (layout_of size descriptors available used) outcome × (new ≡ old)
-ActStep choice (events.Step id) device old outcome new = TakesStep old device choice.access choice.frame outcome new
-ActStep choice (events.Status id) device old outcome new = IsStatus outcome × (new ≡ old)
-ActStep choice (events.Commit id) device old outcome new = Makes old device outcome new
-ActStep choice _ device old outcome new = ⊥
+abbrev pub ActStep : ℕ → Access → Event → Device → State → Outcome → State → Type 0
+ActStep frame access (events.Read id address len) device old outcome new = IsAnswered false old device (read_of address len) frame outcome new
+ActStep frame access (events.Write id address bytes) device old outcome new = IsAnswered false old device (write_of address bytes) frame outcome new
+ActStep frame access (events.ReadTranslated id address len) device old outcome new = MayAnswerTranslated old device (read_of address len) outcome × (new ≡ old)
+ActStep frame access (events.WriteTranslated id address bytes) device old outcome new = MayAnswerTranslated old device (write_of address bytes) outcome × (new ≡ old)
+ActStep frame access (events.ReadThroughCache id address len) device old outcome new = IsAnswered true old device (read_of address len) frame outcome new
+ActStep frame access (events.WriteThroughCache id address bytes) device old outcome new = IsAnswered true old device (write_of address bytes) frame outcome new
+ActStep frame access (events.Ask id page) device old outcome new = Sends old outcome new
+ActStep frame access (events.Forge id serial) device old outcome new = Sends old outcome new
+ActStep frame access (events.Reset id) device old outcome new = (outcome ≡ Done) × (new ≡ old)
+ActStep frame access (events.Medium id disk) device old outcome new = Inserts disk old device outcome new
+ActStep frame access (events.Queue id size descriptors available used) device old outcome new = MaySet (layout_of size descriptors available used) outcome × (new ≡ old)
+ActStep frame access (events.Step id) device old outcome new = TakesStep old device access frame outcome new
+ActStep frame access (events.Status id) device old outcome new = IsStatus outcome × (new ≡ old)
+ActStep frame access (events.Commit id) device old outcome new = Makes old device outcome new
+ActStep frame access _ device old outcome new = ⊥

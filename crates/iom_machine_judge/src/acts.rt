@@ -9,9 +9,9 @@ use crate::commits::make;
 use crate::devices::place_of;
 use crate::line::Decided;
 use crate::{requests, through_cache, translated};
-use iom_base::{DeviceId, DeviceKind, Refusal};
+use iom_base::{Access, DeviceId, DeviceKind, Refusal};
 use iom_kept_state::KeptState;
-use iom_machine::{Choice, Event, Outcome};
+use iom_machine::{Event, Outcome};
 use std::alloc::Global;
 
 /// Whether a device of this kind can do what the event asks.
@@ -41,16 +41,17 @@ fn act_at(
     place: usize,
     event: &Event,
     outcome: &Outcome,
-    choice: &Choice,
+    frame: u64,
+    access: &Access,
 ) -> Decided
     requires { place < length kept.old.devices }
     ensures { IfOk result (λ may. (device : Device) → slice_get kept.old.devices place ≡ Some device → StandsAt kept.old.devices device.id place
-        → Decides may kept.old kept.new (λ before after. ActStep choice.now event.now device before outcome.now after)) }
+        → Decides may kept.old kept.new (λ before after. ActStep frame access.now event.now device before outcome.now after)) }
 {
     match event {
         Event::Read { .. } | Event::Write { .. } => {
             let access = access_of(alloc, event)?;
-            requests::answer_at(kept, place, access, choice.frame, outcome)
+            requests::answer_at(kept, place, access, frame, outcome)
         }
         Event::ReadTranslated { .. } | Event::WriteTranslated { .. } => {
             let access = access_of(alloc, event)?;
@@ -59,7 +60,7 @@ fn act_at(
         }
         Event::ReadThroughCache { .. } | Event::WriteThroughCache { .. } => {
             let access = access_of(alloc, event)?;
-            through_cache::answer_at(kept, place, access, choice.frame, outcome)
+            through_cache::answer_at(kept, place, access, frame, outcome)
         }
         Event::Ask { .. } | Event::Forge { .. } => {
             Ok(matches!(outcome, Outcome::Sent | Outcome::Lost))
@@ -73,7 +74,7 @@ fn act_at(
             used,
             ..
         } => Ok(may_set(*size, *descriptors, *available, *used, outcome)),
-        Event::Step { .. } => take_step(alloc, kept, place, outcome, choice),
+        Event::Step { .. } => take_step(alloc, kept, place, outcome, frame, access),
         Event::Status { .. } => Ok(matches!(outcome, Outcome::Status(_))),
         Event::Commit { .. } => make(kept, place, outcome),
         _ => Ok(false),
@@ -97,10 +98,11 @@ pub(crate) fn judge_act(
     id: DeviceId,
     event: &Event,
     outcome: &Outcome,
-    choice: &Choice,
+    frame: u64,
+    access: &Access,
 ) -> Decided
     ensures { IfOk result (λ may. Decides may kept.old kept.new (λ before after.
-        Acts (able_to event.now) (λ device. ActStep choice.now event.now device before outcome.now after) before id outcome.now after)) }
+        Acts (able_to event.now) (λ device. ActStep frame access.now event.now device before outcome.now after) before id outcome.now after)) }
 {
     let Some(place) = place_of(kept.devices.as_slice(), id) else {
         return Ok(is_refused(outcome, Refusal::NoSuchDevice));
@@ -109,5 +111,5 @@ pub(crate) fn judge_act(
     if !is_able(event, device.kind) {
         return Ok(is_refused(outcome, Refusal::WrongKind));
     }
-    act_at(alloc, kept, place, event, outcome, choice)
+    act_at(alloc, kept, place, event, outcome, frame, access)
 }

@@ -10,7 +10,7 @@ use crate::requests::{self, is_forwarded, is_within_page};
 use crate::through_cache;
 use iom_base::{Access, AccessKind, Refusal};
 use iom_kept_state::KeptState;
-use iom_machine::{BlockStep, Choice, Device, Outcome};
+use iom_machine::{BlockStep, Device, Outcome};
 use iom_virtqueue::Layout;
 use std::alloc::{AllocError, Global};
 
@@ -138,19 +138,20 @@ pub(crate) fn take_step(
     kept: &mut KeptState,
     place: usize,
     outcome: &Outcome,
-    choice: &Choice,
+    frame: u64,
+    access: &Access,
 ) -> Decided
     requires { place < length kept.old.devices }
     ensures { IfOk result (λ may. (device : Device) → slice_get kept.old.devices place ≡ Some device → StandsAt kept.old.devices device.id place
-        → Decides may kept.old kept.new (λ before after. TakesStep before device choice.now.access choice.now.frame outcome.now after)) }
+        → Decides may kept.old kept.new (λ before after. TakesStep before device access.now frame outcome.now after)) }
 {
     match outcome {
         Outcome::Stepped(step) => {
             let device = &kept.devices.as_slice()[place];
-            Ok(may_be(kept, device, &choice.access, *step))
+            Ok(may_be(kept, device, access, *step))
         }
         Outcome::Accepted(_) | Outcome::Busy | Outcome::Fault(_) => {
-            begin(alloc, kept, place, &choice.access, choice.frame, outcome)
+            begin(alloc, kept, place, access, frame, outcome)
         }
         _ => Ok(false),
     }

@@ -13,7 +13,7 @@ use crate::line::{Decided, Line};
 use crate::polls::judge_poll;
 use crate::processor::{judge_free, judge_peek, judge_poke};
 use crate::questions::judge_deliver;
-use iom_base::Refusal;
+use iom_base::{Access, Refusal};
 use iom_kept_state::KeptState;
 use iom_machine::{Choice, Event, Outcome};
 use std::alloc::{AllocError, Global};
@@ -74,15 +74,18 @@ fn judge_unchanged(kept: &KeptState, event: &Event, outcome: &Outcome, choice: &
     }
 }
 
-/// Whether the event may have this outcome where what the outcome doesn't show was chosen so: then the next state is kept, and else nothing changed.
+/// Whether the event may have this outcome where what the outcome doesn't show was chosen so, with this access for the choice's: then the
+/// next state is kept, and else nothing changed.
 pub fn judge(
     alloc: Global,
     kept: &mut KeptState,
     event: &Event,
     outcome: &Outcome,
     choice: &Choice,
+    access: &Access,
 ) -> Result<bool, AllocError>
-    ensures { IfOk result (λ may. Decides may kept.old kept.new (λ before after. ChosenStep choice.now before event.now outcome.now after)) }
+    ensures { IfOk result (λ may. Decides may kept.old kept.new (λ before after.
+        ChosenStep (record choice.now { access = access.now }) before event.now outcome.now after)) }
 {
     match event {
         Event::Plug { .. } | Event::Attach { .. } | Event::Detach { .. } | Event::Grant { .. } => {
@@ -114,7 +117,9 @@ pub fn judge(
         | Event::Queue { device, .. }
         | Event::Step { device }
         | Event::Status { device }
-        | Event::Commit { device } => judge_act(alloc, kept, *device, event, outcome, choice),
+        | Event::Commit { device } => {
+            judge_act(alloc, kept, *device, event, outcome, choice.frame, access)
+        }
     }
 }
 
@@ -128,7 +133,14 @@ pub fn judge_run(
     ensures { IfOk result (λ found. IsFoundOf found kept.old kept.new lines.now) }
 {
     for (number, line) in lines.iter().enumerate() {
-        if !judge(alloc, kept, &line.event, &line.outcome, &line.choice)? {
+        if !judge(
+            alloc,
+            kept,
+            &line.event,
+            &line.outcome,
+            &line.choice,
+            &line.choice.access,
+        )? {
             return Ok(Some(number));
         }
     }

@@ -15,20 +15,20 @@ BeginsSo start outcome = (rest : List ℕ) × (line_of outcome ≡ start ++ rest
 
 -- Each place is of its kind. Those of kinds that come less often stand beside how their lines begin.
 pub record AreOfKind (kept : KeptOutcomes) : Type 0 where
-  pub done : kept.done ≡ outcomes.Done
-  pub accepted : (number : ℕ) × (kept.accepted ≡ outcomes.Accepted number)
-  pub read : (bytes : _) × (kept.read ≡ outcomes.Read bytes)
-  pub wrote : (len : ℕ) × (kept.wrote ≡ outcomes.Wrote len)
-  pub ticket : (ticket : ℕ) × (kept.ticket ≡ outcomes.Ticket ticket)
-  pub fault : (cause : Cause) × (kept.fault ≡ outcomes.Fault cause)
-  pub fetched : (fetched : Fetched) × (kept.fetched ≡ outcomes.Fetched fetched)
-  pub confirmed : (first last : ℕ) × (kept.confirmed ≡ outcomes.Confirmed first last false)
-  pub none_confirmed : kept.none_confirmed ≡ outcomes.NoneConfirmed false
-  pub bytes : (bytes : _) × (kept.bytes ≡ outcomes.Bytes bytes)
-  pub no_record : kept.no_record ≡ outcomes.NoRecord
-  pub sent : kept.sent ≡ outcomes.Sent
-  pub kept_there : kept.kept ≡ outcomes.Kept
-  pub no_message : kept.no_message ≡ outcomes.NoMessage
-  pub fault_record : (words : FaultRecord) × (kept.«record» ≡ outcomes.Record words)
-  pub stepped : (step : BlockStep) × (kept.stepped ≡ outcomes.Stepped step)
+  pub done : kept.done.value ≡ outcomes.Done
+  pub accepted : (number : ℕ) × (kept.accepted.value ≡ outcomes.Accepted number)
+  pub read : (bytes : _) × (kept.read.value ≡ outcomes.Read bytes)
+  pub wrote : (len : ℕ) × (kept.wrote.value ≡ outcomes.Wrote len)
+  pub ticket : (ticket : ℕ) × (kept.ticket.value ≡ outcomes.Ticket ticket)
+  pub fault : (cause : Cause) × (kept.fault.value ≡ outcomes.Fault cause)
+  pub fetched : (fetched : Fetched) × (kept.fetched.value ≡ outcomes.Fetched fetched)
+  pub confirmed : (first last : ℕ) × (kept.confirmed.value ≡ outcomes.Confirmed first last false)
+  pub none_confirmed : kept.none_confirmed.value ≡ outcomes.NoneConfirmed false
+  pub bytes : (bytes : _) × (kept.bytes.value ≡ outcomes.Bytes bytes)
+  pub no_record : kept.no_record.value ≡ outcomes.NoRecord
+  pub sent : kept.sent.value ≡ outcomes.Sent
+  pub kept_there : kept.kept.value ≡ outcomes.Kept
+  pub no_message : kept.no_message.value ≡ outcomes.NoMessage
+  pub fault_record : (words : FaultRecord) × (kept.«record».value ≡ outcomes.Record words)
+  pub stepped : (step : BlockStep) × (kept.stepped.value ≡ outcomes.Stepped step)
   pub seldom : All (λ place. BeginsSo place.0.now place.1) kept.seldom.items

@@ -1,5 +1,5 @@
 // Outcomes that lines tell.
-ghost use Rattle.std.specs.Prelude.{◌≡◌, ◌++◌, ◌∷◌, [], All, codes, flat_map, length, IfOk, IfSome, IsTrue};
+ghost use Rattle.std.specs.Prelude.{◌≡◌, ◌++◌, ◌∷◌, [], All, codes, flat_map, length, IfOk, IfSome, IsTrue, OnOk};
 ghost use Rattle.std.specs.Fmt.{decimal};
 ghost use Rattle.iom_base.specs.Causes.{code_of};
 ghost use Rattle.iom_script.specs.Digits.{hex_of};
@@ -33,26 +33,26 @@ pub static CAUSES: [Cause; 11] = [
 ];
 
 /// A place for each kind of outcome, for line after line. An outcome has room for the bytes of a page, and a new one is a
-/// fill of so many zeros: in such a place only what differs is written.
+/// fill of so many zeros: in such a place only what differs is written. Each stands in a box, so that none is moved.
 #[derive(Drop)]
 pub struct KeptOutcomes {
-    done: Outcome,
-    accepted: Outcome,
-    read: Outcome,
-    wrote: Outcome,
-    ticket: Outcome,
-    fault: Outcome,
-    fetched: Outcome,
-    confirmed: Outcome,
-    none_confirmed: Outcome,
-    bytes: Outcome,
-    no_record: Outcome,
-    sent: Outcome,
-    kept: Outcome,
-    no_message: Outcome,
-    record: Outcome,
-    stepped: Outcome,
-    /// Those that come less often, each beside how its words begin.
+    done: Box<Outcome>,
+    accepted: Box<Outcome>,
+    read: Box<Outcome>,
+    wrote: Box<Outcome>,
+    ticket: Box<Outcome>,
+    fault: Box<Outcome>,
+    fetched: Box<Outcome>,
+    confirmed: Box<Outcome>,
+    none_confirmed: Box<Outcome>,
+    bytes: Box<Outcome>,
+    no_record: Box<Outcome>,
+    sent: Box<Outcome>,
+    kept: Box<Outcome>,
+    no_message: Box<Outcome>,
+    record: Box<Outcome>,
+    stepped: Box<Outcome>,
+    /// Those that come less often, each beside how its words begin: once one came. There is room for all.
     seldom: Vec<(&'static [u8], Outcome)>,
     /// One of these is printed here.
     printed: LineBuffer,
@@ -61,11 +61,12 @@ pub struct KeptOutcomes {
 /// The place, which is one of this kind, once that is told.
 macro_rules! tell {
     ($place:expr, $kind:pat => $told:expr) => {{
-        match &mut $place {
+        let place: &mut Outcome = &mut $place;
+        match place {
             $kind => $told,
             _ => return None,
         }
-        Some(&$place)
+        Some(place)
     }};
 }
 
@@ -73,8 +74,9 @@ macro_rules! tell {
 macro_rules! tell_words {
     ($text:expr, $($word:literal => $place:expr, $kind:pat,)+) => {
         $(if is_word($text, $word) {
-            return match &$place {
-                $kind => Some(&$place),
+            let place: &Outcome = &$place;
+            return match place {
+                $kind => Some(place),
                 _ => None,
             };
         })+
@@ -262,11 +264,10 @@ fn step_of(text: &[u8]) -> Option<BlockStep> {
     }
 }
 
-/// The places of outcomes that come less often, each beside how its words begin.
-fn seldom_places(alloc: Global) -> Result<Vec<(&'static [u8], Outcome)>, AllocError>
-    ensures { IfOk result (λ places. All (λ place. BeginsSo place.0.now place.1) places.items) }
+/// Adds the places of outcomes that come less often, each beside how its words begin.
+fn add_seldom(places: &mut Vec<(&'static [u8], Outcome)>) -> Result<(), AllocError>
+    ensures { OnOk result (All (λ place. BeginsSo place.0.now place.1) places.old.items → All (λ place. BeginsSo place.0.now place.1) places.new.items) }
 {
-    let mut places: Vec<(&'static [u8], Outcome)> = Vec::with_capacity(alloc, 32)?;
     places.push((b"miss", Outcome::Miss))?;
     let no_translation = Translation::Refused(Cause::ReadPageFault);
     places.push((b"answer ", Outcome::Answered(no_translation)))?;
@@ -288,7 +289,7 @@ fn seldom_places(alloc: Global) -> Result<Vec<(&'static [u8], Outcome)>, AllocEr
     places.push((b"dropped", Outcome::Dropped))?;
     places.push((b"repeated", Outcome::Repeated))?;
     places.push((b"status ", Outcome::Status(0)))?;
-    Ok(places)
+    Ok(())
 }
 
 /// Tells the place what stands behind the start of its words. None where that doesn't say it.
@@ -304,33 +305,45 @@ fn tell_place(place: &mut Outcome, rest: &[u8]) -> Option<()> {
     Some(())
 }
 
+/// A place that has the outcome.
+// A call: written into its caller, each would be filled three times.
+#[inline(never)]
+fn place(alloc: Global, outcome: Outcome) -> Result<Box<Outcome>, AllocError>
+    ensures { IfOk result (λ place. place.value ≡ outcome) }
+{
+    Ok(Box::new(alloc, outcome)?)
+}
+
 impl KeptOutcomes {
     /// Places of which each is of its kind.
     pub fn new(alloc: Global) -> Result<KeptOutcomes, AllocError>
         ensures { IfOk result AreOfKind }
     {
         Ok(KeptOutcomes {
-            done: Outcome::Done,
-            accepted: Outcome::Accepted(0),
-            read: Outcome::Read(ArrayVec::new()),
-            wrote: Outcome::Wrote(0),
-            ticket: Outcome::Ticket(0),
-            fault: Outcome::Fault(Cause::ReadPageFault),
-            fetched: Outcome::Fetched(Fetched::Empty),
-            confirmed: Outcome::Confirmed {
-                first: 0,
-                last: 0,
-                timed_out: false,
-            },
-            none_confirmed: Outcome::NoneConfirmed { timed_out: false },
-            bytes: Outcome::Bytes(ArrayVec::new()),
-            no_record: Outcome::NoRecord,
-            sent: Outcome::Sent,
-            kept: Outcome::Kept,
-            no_message: Outcome::NoMessage,
-            record: Outcome::Record(FaultRecord { words: [0; 4] }),
-            stepped: Outcome::Stepped(BlockStep::Idle),
-            seldom: seldom_places(alloc)?,
+            done: place(alloc, Outcome::Done)?,
+            accepted: place(alloc, Outcome::Accepted(0))?,
+            read: place(alloc, Outcome::Read(ArrayVec::new()))?,
+            wrote: place(alloc, Outcome::Wrote(0))?,
+            ticket: place(alloc, Outcome::Ticket(0))?,
+            fault: place(alloc, Outcome::Fault(Cause::ReadPageFault))?,
+            fetched: place(alloc, Outcome::Fetched(Fetched::Empty))?,
+            confirmed: place(
+                alloc,
+                Outcome::Confirmed {
+                    first: 0,
+                    last: 0,
+                    timed_out: false,
+                },
+            )?,
+            none_confirmed: place(alloc, Outcome::NoneConfirmed { timed_out: false })?,
+            bytes: place(alloc, Outcome::Bytes(ArrayVec::new()))?,
+            no_record: place(alloc, Outcome::NoRecord)?,
+            sent: place(alloc, Outcome::Sent)?,
+            kept: place(alloc, Outcome::Kept)?,
+            no_message: place(alloc, Outcome::NoMessage)?,
+            record: place(alloc, Outcome::Record(FaultRecord { words: [0; 4] }))?,
+            stepped: place(alloc, Outcome::Stepped(BlockStep::Idle))?,
+            seldom: Vec::with_capacity(alloc, 32)?,
             printed: LineBuffer::new(alloc)?,
         })
     }
@@ -346,8 +359,9 @@ impl KeptOutcomes {
     pub(crate) fn done(&self) -> Option<&Outcome>
         ensures { IfSome result (λ outcome. line_of outcome.now ≡ codes "ok" ++ 10 ∷ []) }
     {
-        match &self.done {
-            Outcome::Done => Some(&self.done),
+        let place: &Outcome = &self.done;
+        match place {
+            Outcome::Done => Some(place),
             _ => None,
         }
     }
@@ -370,6 +384,9 @@ impl KeptOutcomes {
         if let Some(step) = step_of(text) {
             let reply = tell!(*stepped, Outcome::Stepped(held) => *held = step)?;
             return if_printed(printed, reply, text);
+        }
+        if seldom.is_empty() {
+            add_seldom(seldom).ok()?;
         }
         for (start, place) in seldom.iter_mut() {
             if let Some(rest) = behind(text, start) {

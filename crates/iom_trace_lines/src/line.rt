@@ -235,20 +235,27 @@ fn read_seldom(
     }
 }
 
+/// The place of the first `=` among sixteen bytes.
+#[inline(always)]
+fn first_equals(bytes: Option<&[u8]>) -> Option<usize> {
+    let lanes = u8x16::from_slice(bytes.filter(|bytes| bytes.len() == 16)?);
+    let found = lanes.simd_eq(u8x16::splat(b'=')).to_bitmask();
+    (found != 0).then_some(found.trailing_zeros() as usize)
+}
+
 /// Where an arrow may stand: the first, near at hand; behind the bytes of a write or a poke the last. Who asks compares it.
 #[inline(always)]
 fn place_of_arrow(line: &[u8]) -> Option<usize> {
-    let lanes = u8x16::splat(b'=');
-    let near = match line.get(..16) {
-        Some(front) => u8x16::from_slice(front).simd_eq(lanes).to_bitmask(),
-        None => 0,
-    };
-    let equals = match line {
-        [b'w', ..] | [b'p', b'o', b'k', ..] => memrchr(b'=', line)?,
-        _ if near != 0 => near.trailing_zeros() as usize,
-        _ => memchr(b'=', line)?,
-    };
-    equals.checked_sub(1)
+    if let [b'w', ..] | [b'p', b'o', b'k', ..] = line {
+        return memrchr(b'=', line)?.checked_sub(1);
+    }
+    if let Some(place) = first_equals(line.get(..16)) {
+        return place.checked_sub(1);
+    }
+    match first_equals(line.get(16..32)) {
+        Some(place) => Some(place.saturating_add(15)),
+        None => memchr(b'=', line)?.checked_sub(1),
+    }
 }
 
 /// What the line says, of which the line feed is left out. The first that says something is that of the world. What is large

@@ -1,14 +1,14 @@
 use Rattle.std.proofs.Common.{◌≡◌, ◌++◌, ◌∷◌, [], List, All, refl}
-use Rattle.std.proofs.lemmas.List.Elements.{All-nil, All-push, All-same}
+use Rattle.std.proofs.lemmas.List.Elements.{All-push, All-same}
 use Rattle.iom_trace_lines.specs.Places.{BeginsSo}
-use Rattle.iom_trace_lines.proofs.kept.seldom_places.Goals as goal
+use Rattle.iom_trace_lines.proofs.kept.add_seldom.Goals as goal
 
 -- one more of which that is so
 one_more : (X : Type 0) (P : X → Type 0) (old new : List X) (x : X) → new ≡ old ++ x ∷ [] → P x → All P old → All P new
 one_more X P old new x is so before = All-same P new (old ++ x ∷ []) is (All-push P old x before so)
 
 pub returns : goal.returns
-returns c =
+returns c all =
     one_more _ (λ place. BeginsSo place.0.now place.1) _ _ _ c.in_ok-push-20.ensures.items (_, refl) (
     one_more _ (λ place. BeginsSo place.0.now place.1) _ _ _ c.in_ok-push-19.ensures.items (_, refl) (
     one_more _ (λ place. BeginsSo place.0.now place.1) _ _ _ c.in_ok-push-18.ensures.items (_, refl) (
@@ -29,4 +29,4 @@ returns c =
     one_more _ (λ place. BeginsSo place.0.now place.1) _ _ _ c.in_ok-push-3.ensures.items (_, refl) (
     one_more _ (λ place. BeginsSo place.0.now place.1) _ _ _ c.in_ok-push-2.ensures.items (_, refl) (
     one_more _ (λ place. BeginsSo place.0.now place.1) _ _ _ c.in_ok-push.ensures.items (_, refl) (
-    All-same (λ place. BeginsSo place.0.now place.1) _ [] c.in_ok-places.ensures.items (All-nil (λ place. BeginsSo place.0.now place.1))))))))))))))))))))))
+    all))))))))))))))))))))
