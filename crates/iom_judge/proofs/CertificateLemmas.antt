@@ -1,5 +1,7 @@
 -- A run grows with each line, and what is certified with it.
 use Rattle.std.proofs.Common.{◌≡◌, ◌≢◌, ◌∙◌, ◌<◌, ℕ, ◌+◌, ◌&&◌, ◌||◌, Bool, true, false, not, nat_eq, List, [], ◌∷◌, ◌++◌, if◌then◌else◌, Option, None, Some, Result, Ok, Err, IfSome, IsSomeAnd, OnOk, IsTrue, refl, sym, ap, subst, append-nil, append_assoc, length, suc, zero, arith}
+use Rattle.std.specs.Option.{option_map_or}
+use Rattle.iom_base.specs.declared.access.Access.{Access}
 use Rattle.std.proofs.lemmas.List.Elements.{All-nil, filter-append}
 use Rattle.std.proofs.KnownBytes.{Consumes-nil}
 use Rattle.iom_kept_state.specs.Grants.{IsPastOf}
@@ -307,3 +309,8 @@ tables_so_far device change outcome zero has taken more tables happened are so_f
 tables_so_far device change outcome (suc k) has taken more tables happened are so_far first later some its =
     let before : 0 < suc k = omega arith in
     ap (λ (l : List ℕ). taken ++ l) (later its before) ∙ append-nil taken ∙ so_far before its
+
+-- the access that is shown was begun
+pub begun_is_shown : (shown : Option Access) (chosen : Access) → IfSome shown (λ access. option_map_or (λ begun. begun) shown chosen ≡ access)
+begun_is_shown None chosen = tt
+begun_is_shown (Some access) chosen = refl

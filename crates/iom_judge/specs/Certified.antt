@@ -1,7 +1,7 @@
 -- What is certified of a trace before its end, line after line.
 -- For the judge's own functions alone; no public contract cites these.
 use Rattle.std.specs.Prelude.{◌≡◌, ◌≢◌, ◌<◌, ℕ, Bool, true, false, List, [], ◌∷◌, map, Option, None, Some, IfSome, IsSomeAnd, IsTrue, length, is_some, nat_eq, ⊤}
-use Rattle.std.specs.Option.{option_copied}
+use Rattle.std.specs.Option.{option_copied, option_map_or}
 use Rattle.indexmap.specs.IndexMap.{get}
 use Rattle.iom_base.specs.declared.grant_rights.GrantRights.{GrantRights}
 use Rattle.iom_kept_state.specs.Grants.{IsPastOf}
@@ -130,6 +130,16 @@ IsReadOf line said tables = SaysLine line said tables × (said ≢ Nothing → i
 abbrev pub ShowsTables : Tables → Event → Choice → Type 0
 ShowsTables (Own tables) event choice = IfSome tables (λ it. tables_chosen event choice ≡ it.now)
 ShowsTables (OfAnother pages) event choice = (choice.taken ≡ []) × IfSome pages (λ it. choice.directory ≡ it.now)
+
+-- with the access that a step began for the chosen one, where it is shown
+abbrev pub with_begun : Shown → Choice → Choice
+with_begun shown choice = record choice { access = option_map_or (λ access. access) (option_copied shown.began) choice.access }
+
+-- what is shown is what was chosen, but for an access
+pub record ShowsRest (shown : Shown) (event : Event) (choice : Choice) : Type 0 where
+  pub tables_taken : ShowsTables shown.tables event choice
+  pub frame : IfSome shown.on (λ frame. choice.frame ≡ frame)
+  pub returned : choice.returned ≡ shown.freed.now
 
 -- what is shown is what was chosen
 pub record ShowsChoice (shown : Shown) (event : Event) (choice : Choice) : Type 0 where

@@ -30,9 +30,12 @@ is_in frame [] = false
 is_in frame (first ∷ rest) = nat_eq first frame || is_in frame rest
 
 -- the frames that became tables of the device, and behind them those that became pages of the device directory
+abbrev pub tables_of : Event → List ℕ → List ℕ → List ℕ
+tables_of (events.Attach id mode ats) taken directory = taken ++ directory
+tables_of _ taken directory = taken
+
 abbrev pub tables_chosen : Event → Choice → List ℕ
-tables_chosen (events.Attach id mode ats) choice = choice.taken ++ choice.directory
-tables_chosen _ choice = choice.taken
+tables_chosen event choice = tables_of event choice.taken choice.directory
 
 -- the frame that is granted, if one is
 abbrev pub frame_granted : Event → Outcome → Option ℕ

@@ -1,6 +1,6 @@
 // What is chosen of what a line doesn't show.
 ghost use Rattle.std.specs.Prelude.{◌≡◌, ℕ, List, IfOk, IfSome, IsTrue, OnOk};
-ghost use Rattle.iom_judge.specs.Certified.{ShowsChoice, ShowsTables};
+ghost use Rattle.iom_judge.specs.Certified.{with_begun, ShowsRest, ShowsTables};
 
 use crate::missing::{Begun, Missing};
 use crate::settled::{Reachable, first_reachable, frame_of, page_without};
@@ -85,9 +85,12 @@ fn list_of(alloc: Global, frames: &[u64]) -> Result<Sequence<u64>, AllocError>
 
 /// The access that a step begins where this is chosen: the one that is shown, where one is.
 pub(crate) fn begun_by<'a>(reply: &Reported<'a>, choice: &'a Choice) -> &'a Access
-    ensures { result.now ≡ option_map_or (λ access. access) (option_copied reply.now.shown.began) choice.now.access }
+    ensures { result.now ≡ (with_begun reply.now.shown choice.now).access }
 {
-    reply.shown.began.unwrap_or(&choice.access)
+    match reply.shown.began {
+        Some(access) => access,
+        None => &choice.access,
+    }
 }
 
 /// How many frames the root of a device's tables has.
@@ -121,9 +124,9 @@ fn choose_tables(alloc: Global, choice: &mut Choice, reply: &Reported<'_>) -> Re
     Ok(())
 }
 
-/// What the line shows is chosen as it shows it.
+/// What the line shows is chosen as it shows it, but for an access.
 fn choose_shown(alloc: Global, choice: &mut Choice, reply: &Reported<'_>) -> Result<(), AllocError>
-    ensures { OnOk result (ShowsChoice reply.now.shown reply.now.event.now choice.new) }
+    ensures { OnOk result (ShowsRest reply.now.shown reply.now.event.now choice.new) }
 {
     let shown = &reply.shown;
     if !choice.returned.as_slice().is_empty() || !shown.freed.is_empty() {
@@ -171,10 +174,10 @@ fn asked_by(reply: &Reported<'_>) -> Option<(DeviceId, Option<(u64, AccessKind)>
         } => Some((*device, Some((*address, AccessKind::Write)))),
         Event::Step { device } => Some((
             *device,
-            match reply.shown.began {
-                Some(access) => Some((access.address, access.kind)),
-                None => None,
-            },
+            reply
+                .shown
+                .began
+                .map(|access| (access.address, access.kind)),
         )),
         _ => None,
     }
@@ -309,7 +312,7 @@ impl Chosen {
         Ok(())
     }
 
-    /// What is chosen for a line: what it shows, and of the rest nothing that isn't lawful, where something else is.
+    /// What is chosen for a line: what it shows, but for an access, and of the rest nothing that isn't lawful, where something else is.
     pub(crate) fn choose(
         &mut self,
         line: &Line<'_>,
@@ -317,7 +320,7 @@ impl Chosen {
         notes: &Notes,
         reply: &Reported<'_>,
     ) -> Result<(), AllocError>
-        ensures { OnOk result (ShowsChoice reply.now.shown reply.now.event.now self.new.choice) }
+        ensures { OnOk result (ShowsRest reply.now.shown reply.now.event.now self.new.choice) }
     {
         self.choose_unshown(line, kept, notes, reply)?;
         choose_shown(line.alloc, &mut self.choice, reply)

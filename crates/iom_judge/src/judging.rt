@@ -177,12 +177,10 @@ impl Judge {
     }
 }
 
-/// What the judge finds of the trace that the reader has. It is judged line by line, and the memory that this takes is what the
-/// trace names.
+/// What the judge finds of the trace that the reader has. It is judged line by line, and the memory that this takes is what the trace names.
 ///
 /// A trace that is found lawful is lines of a run of the ledger machine from power-on, with some choice of what they don't
-/// show, and the sentences of the headline hold of that run. Of one of which the verdict names a line, the lines before it are
-/// such a trace.
+/// show, and the sentences of the headline hold of that run. Of one of which the verdict names a line, the lines before it are such a trace.
 pub fn judge_trace<R: Read>(alloc: Global, reader: &mut R) -> io::Result<Verdict>
     ensures { IfOk result (λ verdict. IfSome (R.remaining reader.old) (IsSoOf verdict)) }
 {

@@ -117,8 +117,7 @@ fn are_both_free(kept: &KeptState, pages: &[u64], taken: &[u64]) -> bool
     kept.are_free_besides(None, pages) && kept.are_free_besides(None, taken)
 }
 
-/// Whether an attach may come so, by which these frames become pages of the device directory and tables; the next
-/// state is then kept.
+/// Whether an attach may come so, by which these frames become pages of the device directory and tables; the next state is then kept.
 pub(crate) fn judge_attach(
     kept: &mut KeptState,
     id: DeviceId,

@@ -2,7 +2,7 @@
 use crate::devices::{say_absent, say_next};
 use crate::facts::Facts;
 use crate::notes::Sent;
-use crate::pages::{Meant, add_frame, say_bad_span, say_stale};
+use crate::pages::{Meant, say_bad_span, say_stale};
 use crate::words::{Said, Words};
 use iom_base::{Access, AccessKind, DeviceId, PAGE_SIZE, Refusal, Rights};
 use iom_fabric::Translation;
@@ -11,7 +11,6 @@ use iom_machine_judge::accesses::access_of;
 use iom_machine_judge::acts::is_able;
 use iom_machine_judge::{questions, requests, through_cache, translated};
 use iom_trace_lines::CAUSES;
-use std::alloc::{AllocError, Global};
 
 /// The device whose access to memory the event may begin, if it may.
 pub(crate) fn requester(event: &Event) -> Option<DeviceId> {
@@ -25,14 +24,6 @@ pub(crate) fn requester(event: &Event) -> Option<DeviceId> {
         | Event::Step { device } => Some(*device),
         _ => None,
     }
-}
-
-/// Says that an access could have been accepted with this number on each of these frames.
-fn could_accept(words: &mut Words, number: u64, frames: &[u64]) -> Said {
-    for frame in frames {
-        words.could(format_args!("accepted {number} on frame {frame}"))?;
-    }
-    Ok(())
 }
 
 /// A device's request to memory.
@@ -90,29 +81,6 @@ impl Facts<'_> {
         self.could_come(words, request, outcome)
     }
 
-    /// The frames on which the request may be accepted with this number: the one that the line shows first.
-    fn frames_for(
-        &self,
-        alloc: Global,
-        request: Request<'_>,
-        meant: Meant,
-        number: u64,
-    ) -> Result<Vec<u64>, AllocError> {
-        let accepted = Outcome::Accepted(number);
-        let mut frames = Vec::new(alloc);
-        if let Some(shown) = self.on {
-            if self.may(request, shown, &accepted) {
-                frames.push(shown)?;
-            }
-        }
-        for frame in self.frames_of(alloc, meant)?.iter() {
-            if self.may(request, *frame, &accepted) {
-                add_frame(&mut frames, *frame)?;
-            }
-        }
-        Ok(frames)
-    }
-
     /// Says what the request may mean, and what could have come: which number is next, where the line could come with that alone.
     fn could_come(&self, words: &mut Words, request: Request<'_>, outcome: &Outcome) -> Said {
         let Request { device, access, .. } = request;
@@ -125,24 +93,19 @@ impl Facts<'_> {
             self.say_shown(words, meant)?;
         }
         let next = device.accepted.saturating_add(1);
-        let frames = self.frames_for(words.alloc, request, meant, next)?;
-        if self.is_shown(&frames) {
+        let may_accept = |frame| self.may(request, frame, &Outcome::Accepted(next));
+        let mut frames = Vec::new(words.alloc);
+        if let Some(shown) = self.on.filter(|shown| may_accept(*shown)) {
+            frames.push(shown)?;
+        }
+        self.add_frames(&mut frames, meant, may_accept)?;
+        let accepted = self.on.or(frames.first().copied());
+        if accepted.is_some_and(|frame| frames.contains(&frame)) {
             say_next(words, device, outcome)?;
         }
-        could_accept(words, next, &frames)?;
-        self.could_refuse(words, request)
-    }
-
-    /// Whether the frame that the line shows is one of these, or one at all, where it shows none.
-    fn is_shown(&self, frames: &[u64]) -> bool {
-        match self.on {
-            None => !frames.is_empty(),
-            Some(shown) => frames.contains(&shown),
+        for frame in frames.iter() {
+            words.could(format_args!("accepted {next} on frame {frame}"))?;
         }
-    }
-
-    /// Says which misses and faults could have come of the request.
-    fn could_refuse(&self, words: &mut Words, request: Request<'_>) -> Said {
         if self.may(request, 0, &Outcome::Miss) {
             words.could("miss")?;
         }
@@ -154,26 +117,21 @@ impl Facts<'_> {
         Ok(())
     }
 
-    /// Whether the device's question of the page may be answered so.
-    fn may_tell(&self, device: &Device, page: u64, reply: Translation) -> bool {
-        questions::may_tell(device.attachment, self.kept, device.id, page, reply)
-    }
-
     /// Says what could have been answered to the device's question of the page, where it may find these frames. No answer names one of
     /// more than 32 bits.
     fn could_tell(&self, words: &mut Words, device: &Device, page: u64, frames: &[u64]) -> Said {
-        for frame in frames {
-            let Ok(frame) = u32::try_from(*frame) else {
-                continue;
-            };
+        let may_tell = |reply: Translation| {
+            questions::may_tell(device.attachment, self.kept, device.id, page, reply)
+        };
+        for frame in frames.iter().filter_map(|frame| u32::try_from(*frame).ok()) {
             for rights in [Rights::RW, Rights::R] {
-                if self.may_tell(device, page, Translation::Page { frame, rights }) {
+                if may_tell(Translation::Page { frame, rights }) {
                     words.could(format_args!("answer {frame} {rights}"))?;
                 }
             }
         }
         for cause in CAUSES.iter() {
-            if self.may_tell(device, page, Translation::Refused(*cause)) {
+            if may_tell(Translation::Refused(*cause)) {
                 words.could(format_args!("answer fault {cause}"))?;
             }
         }
@@ -193,29 +151,14 @@ impl Facts<'_> {
         };
         let meant = Meant::by(device, page, AccessKind::Read);
         self.say_meant(words, meant)?;
-        match came {
-            None => Ok(()),
-            Some(outcome) => self.could_answer(words, device, page, outcome),
-        }
-    }
-
-    /// Says how the frame is stale that the device's question of the page was answered with, if it is, and what could have been
-    /// answered.
-    fn could_answer(
-        &self,
-        words: &mut Words,
-        device: &Device,
-        page: u64,
-        outcome: &Outcome,
-    ) -> Said {
-        let meant = Meant::by(device, page, AccessKind::Read);
+        let Some(outcome) = came else {
+            return Ok(());
+        };
         if let Outcome::Answered(Translation::Page { frame, .. }) = outcome {
             say_stale(words, self.stale(meant, u64::from(*frame)))?;
         }
         let mut frames = Vec::new(words.alloc);
-        for frame in self.frames_of(words.alloc, meant)?.iter() {
-            add_frame(&mut frames, *frame)?;
-        }
+        self.add_frames(&mut frames, meant, |_frame| true)?;
         self.could_tell(words, device, page, &frames)
     }
 }

@@ -1,6 +1,5 @@
 // What is said of a device, of its accesses in flight, which polls and commits touch, and of a step that it takes.
 use crate::facts::Facts;
-use crate::pages::Sought;
 use crate::past::Release;
 use crate::words::{InLine, MOST_SAID, Said, Under, Words, name_of};
 use iom_base::{AcceptedAccess, AccessKind, DeviceId, PAGE_SIZE, Refusal};
@@ -25,14 +24,6 @@ pub(crate) fn say_next(words: &mut Words, device: &Device, outcome: &Outcome) ->
     }
 }
 
-/// Whether the ticket was given behind that of the release that was found, if one was.
-fn is_later(release: Release, found: Option<(u64, Release)>) -> bool {
-    match found {
-        None => true,
-        Some((_page, other)) => other.ticket < release.ticket,
-    }
-}
-
 /// Says that there is no such device.
 pub(crate) fn say_absent(words: &mut Words, id: DeviceId) -> Said {
     words.say(format_args!("no device {id:06x} is plugged in"))?;
@@ -49,7 +40,8 @@ impl Facts<'_> {
             Attachment::Quarantined { ticket, .. } => ("quarantined", ticket),
             Attachment::Leaving { ticket, .. } => ("leaving", ticket),
         };
-        let under = Under(Some(ticket), self.notes.past.leave_under(ticket));
+        let leave = self.notes.past.leaves.get(&ticket);
+        let under = Under(Some(ticket), leave.map(|(_id, release)| *release));
         words.say(format_args!("{id:06x} is {what} {under}"))
     }
 
@@ -136,11 +128,12 @@ impl Facts<'_> {
     /// Says under which of these tickets the device released the frame last, and at which page, if it did.
     fn say_release(&self, words: &mut Words, id: DeviceId, frame: u64, tickets: &Tickets) -> Said {
         let mut places = Vec::new(words.alloc);
-        self.add_places(&mut places, id, Sought::Frame(frame))?;
+        self.add_places(&mut places, id, |reached: u64, _rights| reached == frame)?;
         let mut found: Option<(u64, Release)> = None;
         for place in places.iter() {
-            if let Some(release) = self.pending_of(*place) {
-                if tickets.contains(&release.ticket) && is_later(release, found) {
+            let pending = self.pending_of(*place);
+            if let Some(release) = pending.filter(|release| tickets.contains(&release.ticket)) {
+                if found.is_none_or(|(_page, other)| other.ticket < release.ticket) {
                     found = Some((place.page, release));
                 }
             }

@@ -25,32 +25,6 @@ impl Meant {
     }
 }
 
-/// Which of a device's places are sought.
-#[derive(Clone, Copy)]
-pub(crate) enum Sought {
-    /// Those at which it reaches the frame.
-    Frame(u64),
-    /// Those that it may access so.
-    Access(AccessKind),
-}
-
-impl Sought {
-    fn has(self, frame: u64, rights: Rights) -> bool {
-        match self {
-            Sought::Frame(sought) => frame == sought,
-            Sought::Access(kind) => rights.allows(kind),
-        }
-    }
-}
-
-/// Puts the frame to the others, where it isn't there: eight at most.
-pub(crate) fn add_frame(frames: &mut Vec<u64>, frame: u64) -> Said {
-    if frames.len() < MOST_SAID && !frames.contains(&frame) {
-        frames.push(frame)?;
-    }
-    Ok(())
-}
-
 /// Says that the bytes aren't some of one page.
 pub(crate) fn say_bad_span(words: &mut Words) -> Said {
     words.say("its bytes are none or too many, or leave their page")?;
@@ -77,13 +51,20 @@ impl Facts<'_> {
         held.or(self.kept.grants.lingering(device, page))
     }
 
-    /// Puts those places of the device to the others that are sought, and at which it reaches something.
-    pub(crate) fn add_places(&self, places: &mut Vec<Place>, id: DeviceId, sought: Sought) -> Said {
+    /// Puts those places of the device to the others at which it reaches a frame that is sought, or has rights that are.
+    pub(crate) fn add_places<F: Fn(u64, Rights) -> bool>(
+        &self,
+        places: &mut Vec<Place>,
+        id: DeviceId,
+        is_sought: F,
+    ) -> Said
+        requires { F.IsAlwaysCallable is_sought }
+    {
         for index in 0..self.kept.grants.page_count(id) {
             if let Some(page) = self.kept.grants.page_at(id, index) {
                 let place = Place::new(id, page);
                 if let Some((frame, rights)) = self.reached(place) {
-                    if sought.has(frame, rights) {
+                    if is_sought(frame, rights) {
                         places.push(place)?;
                     }
                 }
@@ -98,45 +79,46 @@ impl Facts<'_> {
         match meant {
             Meant::At(place) => places.push(place)?,
             Meant::Anywhere(id, kind) => {
-                self.add_places(&mut places, id, Sought::Access(kind))?;
+                let allows = |_frame: u64, rights: Rights| rights.allows(kind);
+                self.add_places(&mut places, id, allows)?;
             }
         }
         Ok(places)
     }
 
-    /// The frame that the device may find at each of these places.
-    pub(crate) fn frames_of(&self, alloc: Global, meant: Meant) -> Result<Vec<u64>, AllocError> {
-        let mut frames = Vec::new(alloc);
-        for place in self.places_of(alloc, meant)?.iter() {
+    /// Puts the frames to the others that the device may find there, and that may come: eight at most.
+    pub(crate) fn add_frames<F: Fn(u64) -> bool>(
+        &self,
+        frames: &mut Vec<u64>,
+        meant: Meant,
+        may_come: F,
+    ) -> Said
+        requires { F.IsAlwaysCallable may_come }
+    {
+        let places = self.places_of(*frames.allocator(), meant)?;
+        for place in places.iter() {
             if let Some((frame, _rights)) = self.reached(*place) {
-                frames.push(frame)?;
+                if frames.len() < MOST_SAID && !frames.contains(&frame) && may_come(frame) {
+                    frames.push(frame)?;
+                }
             }
         }
-        Ok(frames)
+        Ok(())
     }
 
     /// The release of the page, if its ticket isn't confirmed.
     pub(crate) fn pending_of(&self, place: Place) -> Option<Release> {
         let last = self.notes.past.last_at(place)?;
-        match last.release {
-            Some(release) if release.confirmed.is_none() => Some(release),
-            _ => None,
-        }
-    }
-
-    /// The line that granted the frame there, if it was the last.
-    fn granted(&self, place: Place, frame: u64) -> Option<u64> {
-        match self.notes.past.last_at(place) {
-            Some(stay) if stay.frame == frame => Some(stay.granted),
-            _ => None,
-        }
+        last.release.filter(|release| release.confirmed.is_none())
     }
 
     /// Says what the device holds at the page, or what lingers there.
     pub(crate) fn say_page(&self, words: &mut Words, place: Place) -> Said {
         let Place { device, page } = place;
         if let Some((frame, rights)) = self.kept.grants.held(device, page) {
-            let granted = InLine("granted", self.granted(place, frame));
+            let last = self.notes.past.last_at(place);
+            let last = last.filter(|stay| stay.frame == frame);
+            let granted = InLine("granted", last.map(|stay| stay.granted));
             return words.say(format_args!(
                 "{device:06x} holds frame {frame} {rights} at page {page}{granted}"
             ));
@@ -175,10 +157,7 @@ impl Facts<'_> {
     /// Whether the device reaches the frame there.
     fn is_reached(&self, meant: Meant, frame: u64) -> bool {
         match meant {
-            Meant::At(place) => match self.reached(place) {
-                None => false,
-                Some((found, _rights)) => found == frame,
-            },
+            Meant::At(place) => self.reached(place).is_some_and(|(found, _)| found == frame),
             Meant::Anywhere(id, kind) => self.kept.grants.may(id, 0, frame, kind),
         }
     }
@@ -188,75 +167,59 @@ impl Facts<'_> {
         if self.is_reached(meant, frame) {
             return None;
         }
-        match meant {
-            Meant::At(place) => Some((None, self.notes.past.stale_at(place, frame)?)),
-            Meant::Anywhere(id, _kind) => self.stale_anywhere(id, frame),
-        }
-    }
-
-    /// The same, of the first of the device's pages at which the frame is stale, and isn't reached.
-    fn stale_anywhere(&self, id: DeviceId, frame: u64) -> Option<(Option<u64>, Stay)> {
         let past = &self.notes.past;
-        for place in past.last.keys() {
-            if place.device == id && !self.is_reached(Meant::At(*place), frame) {
-                if let Some(stay) = past.stale_at(*place, frame) {
-                    return Some((Some(place.page), stay));
-                }
-            }
-        }
-        None
+        let id = match meant {
+            Meant::At(place) => return Some((None, past.stale_at(place, frame)?)),
+            Meant::Anywhere(id, _kind) => id,
+        };
+        let mut places = past.last.keys().filter(|place| {
+            place.device == id && !self.is_reached(Meant::At(**place), frame)
+        });
+        places.find_map(|place| Some((Some(place.page), past.stale_at(*place, frame)?)))
     }
 
     /// Says what is stale there: the frame that the line shows, if that is, and else what was at the page last.
     pub(crate) fn say_shown(&self, words: &mut Words, meant: Meant) -> Said {
-        let Some(frame) = self.on else {
-            return self.say_last(words, meant);
-        };
-        if self.is_reached(meant, frame) {
+        if self.on.is_some_and(|frame| self.is_reached(meant, frame)) {
             return Ok(());
         }
-        let stale = self.stale(meant, frame);
+        let stale = self.on.and_then(|frame| self.stale(meant, frame));
         if stale.is_some() {
             return say_stale(words, stale);
         }
-        self.say_last(words, meant)?;
-        self.say_frame(words, frame)
-    }
-
-    /// Says that what was at the page last is stale, if it is.
-    fn say_last(&self, words: &mut Words, meant: Meant) -> Said {
-        let Meant::At(place) = meant else {
-            return Ok(());
-        };
-        match self.notes.past.last_at(place) {
-            Some(stay) if stay.is_stale() => say_stale(words, Some((None, stay))),
-            _ => Ok(()),
+        if let Meant::At(place) = meant {
+            let last = self.notes.past.last_at(place);
+            let last = last.filter(|stay| stay.is_stale());
+            say_stale(words, last.map(|stay| (None, stay)))?;
+        }
+        match self.on {
+            None => Ok(()),
+            Some(frame) => self.say_frame(words, frame),
         }
     }
 
     /// Says what is known of a frame: whose it is, and which devices reach it, and where.
     pub(crate) fn say_frame(&self, words: &mut Words, frame: u64) -> Said {
-        self.say_owner(words, frame)?;
-        let mut places = Vec::new(words.alloc);
-        for device in self.kept.devices.as_slice() {
-            self.add_places(&mut places, device.id, Sought::Frame(frame))?;
-        }
-        self.say_places(words, &places)
-    }
-
-    /// Says whose the frame is.
-    fn say_owner(&self, words: &mut Words, frame: u64) -> Said {
         let (owner, count) = (self.kept.frames.owner(frame), self.kept.frames.count());
         match owner {
             _ if frame >= count => words.say(format_args!(
                 "memory has frames 0 to {count}, less one"
-            )),
-            None => words.say(format_args!("frame {frame} is nobody's table or directory page")),
-            Some(Owner::System) => words.say(format_args!("frame {frame} belongs to the system")),
+            ))?,
+            None => words.say(format_args!("frame {frame} is nobody's table or directory page"))?,
+            Some(Owner::System) => words.say(format_args!("frame {frame} belongs to the system"))?,
             Some(Owner::OneDevice(id)) => words.say(format_args!(
                 "frame {frame} is a table of {id:06x}"
-            )),
+            ))?,
         }
+        let mut places = Vec::new(words.alloc);
+        for device in self.kept.devices.as_slice() {
+            self.add_places(
+                &mut places,
+                device.id,
+                |reached: u64, _rights| reached == frame,
+            )?;
+        }
+        self.say_places(words, &places)
     }
 
     /// Says what is known of a frame of which it is told whether it is free, and what could have been told.

@@ -9,7 +9,7 @@ use std::alloc::Global;
 use std::collections::VecDeque;
 
 /// A page of a device.
-#[derive(Clone, Copy, PartialEq, Eq, Hash)]
+#[derive(Clone, Copy, PartialEq, Eq, Hash, Debug)]
 pub(crate) struct Place {
     pub device: DeviceId,
     pub page: u64,
@@ -59,18 +59,7 @@ pub(crate) struct Stay {
 impl Stay {
     /// Whether the ticket of its release is confirmed.
     pub(crate) fn is_stale(&self) -> bool {
-        match self.release {
-            None => false,
-            Some(release) => release.confirmed.is_some(),
-        }
-    }
-}
-
-/// The stay, where it was of this frame, and is stale.
-fn stale_in(stay: Option<Stay>, frame: u64) -> Option<Stay> {
-    match stay {
-        Some(stay) if stay.frame == frame && stay.is_stale() => Some(stay),
-        _ => None,
+        self.release.and_then(|release| release.confirmed).is_some()
     }
 }
 
@@ -84,7 +73,7 @@ pub(crate) struct Past {
     before: IndexMap<Place, Stay>,
     /// The tickets under which devices were quarantined, or detached. All that one holds is released when it is quarantined, without a line
     /// for each page: so a page's grant notes how often devices had left, and the next time that this one does is its release.
-    leaves: IndexMap<u32, (DeviceId, Release)>,
+    pub(crate) leaves: IndexMap<u32, (DeviceId, Release)>,
     /// The pages that were released last under those tickets that aren't confirmed.
     pending: IndexMap<u32, Place>,
     /// The lines that accepted each device's accesses in flight. They are made in the order in which they were accepted.
@@ -106,29 +95,13 @@ impl Past {
         }
     }
 
-    /// The first time that the device left, of those behind so many.
-    fn leave_of(&self, device: DeviceId, behind: usize) -> Option<Release> {
-        for (other, release) in self.leaves.values().skip(behind) {
-            if *other == device {
-                return Some(*release);
-            }
-        }
-        None
-    }
-
     /// The one of these stays that was at the place, with the device's leave as its release, where it had none of its own.
     fn stay_of(&self, stays: &IndexMap<Place, Stay>, place: Place) -> Option<Stay> {
         let mut stay = *stays.get(&place)?;
-        if stay.release.is_none() {
-            stay.release = self.leave_of(place.device, stay.leaves);
-        }
+        let mut leaves = self.leaves.values().skip(stay.leaves);
+        let leave = leaves.find(|(device, _release)| *device == place.device);
+        stay.release = stay.release.or(leave.map(|(_device, release)| *release));
         Some(stay)
-    }
-
-    /// The leave of a device under the ticket, if one left under it.
-    pub(crate) fn leave_under(&self, ticket: u32) -> Option<Release> {
-        let (_device, release) = self.leaves.get(&ticket)?;
-        Some(*release)
     }
 
     /// What the device had at the page last.
@@ -138,10 +111,9 @@ impl Past {
 
     /// One of the last two that it had there, if the frame was this, and is stale.
     pub(crate) fn stale_at(&self, place: Place, frame: u64) -> Option<Stay> {
-        match stale_in(self.last_at(place), frame) {
-            Some(stay) => Some(stay),
-            None => stale_in(self.stay_of(&self.before, place), frame),
-        }
+        let before = self.stay_of(&self.before, place);
+        let mut stays = self.last_at(place).into_iter().chain(before);
+        stays.find(|stay| stay.frame == frame && stay.is_stale())
     }
 
     /// The line that accepted the device's access in flight with this index.
@@ -179,18 +151,13 @@ impl Past {
             release.confirmed = Some(line);
         }
         for _ in 0..self.last.len() {
-            let Some(place) = next else {
+            let stay = next.and_then(|place| self.last.get_mut(&place));
+            let Some(release) = stay.and_then(|stay| stay.release.as_mut()) else {
                 return;
             };
-            next = self.confirm_at(place, line);
+            release.confirmed = Some(line);
+            next = release.shared;
         }
-    }
-
-    /// The line confirms the ticket of the page's release. The page that shares it, if one does.
-    fn confirm_at(&mut self, place: Place, line: u64) -> Option<Place> {
-        let release = self.last.get_mut(&place)?.release.as_mut()?;
-        release.confirmed = Some(line);
-        release.shared
     }
 
     /// The lines that accepted the device's accesses in flight, if any did. A line often speaks of the device of the one before.
@@ -239,9 +206,7 @@ impl Past {
                 }
             }
             (Event::Commit { device }, Outcome::Read(_) | Outcome::Wrote(_)) => {
-                if let Some(lines) = self.flights_of(*device) {
-                    let _oldest = lines.pop_front();
-                }
+                let _oldest = self.flights_of(*device).and_then(|lines| lines.pop_front());
             }
             (event, Outcome::Accepted(_)) => {
                 if let Some(device) = requester(event) {

@@ -74,11 +74,7 @@ macro_rules! tell {
 macro_rules! tell_words {
     ($text:expr, $($word:literal => $place:expr, $kind:pat,)+) => {
         $(if is_word($text, $word) {
-            let place: &Outcome = &$place;
-            return match place {
-                $kind => Some(place),
-                _ => None,
-            };
+            return tell!($place, $kind => {});
         })+
     };
 }
@@ -356,14 +352,10 @@ impl KeptOutcomes {
     }
 
     /// The place of what is done.
-    pub(crate) fn done(&self) -> Option<&Outcome>
+    pub(crate) fn done(&mut self) -> Option<&Outcome>
         ensures { IfSome result (λ outcome. line_of outcome.now ≡ codes "ok" ++ 10 ∷ []) }
     {
-        let place: &Outcome = &self.done;
-        match place {
-            Outcome::Done => Some(place),
-            _ => None,
-        }
+        tell!(self.done, Outcome::Done => {})
     }
 
     /// The outcome that the text tells of the event, of those that come less often: it begins so, and how it goes on shows

@@ -73,8 +73,7 @@ fn cut_on(behind: &[u8]) -> Option<(&[u8], Option<u64>)>
     }
 }
 
-/// Reads the access that is shown behind `accepted N` of a step, by the line by which its device would ask for it, and
-/// `on F` behind that.
+/// Reads the access that is shown behind `accepted N` of a step, by the line by which its device would ask for it, and `on F` behind that.
 fn read_began<'a>(
     alloc: Global,
     event: Event,

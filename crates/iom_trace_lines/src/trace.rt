@@ -77,8 +77,7 @@ pub enum TraceLine<'a> {
     },
     /// Frames were granted at so many pages; and whether it is shown which became tables.
     Grants(GrantedPages, bool),
-    /// The device was attached to the domain of the other one, whose tables it shares; and whether it is shown which
-    /// frames became tables.
+    /// The device was attached to the domain of the other one, whose tables it shares; and whether it is shown which frames became tables.
     Joins {
         device: DeviceId,
         with: DeviceId,
