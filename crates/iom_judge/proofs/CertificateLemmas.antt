@@ -23,7 +23,10 @@ use Rattle.iom_trace_lines.specs.TraceLines.{Said, SaysLine, Nothing, World, Ste
 use Rattle.iom_trace_lines.specs.WorldLimits.{limits_of}
 use Rattle.iom_trace_lines.specs.declared.trace.WorldLimits.{WorldLimits}
 use Rattle.iom_judge.specs.Certificates.{four_disks, opening_of, SaysHappened, SayHappened, AreOfRun, AreLawfulLines, IsLawfulTrace, IsSoOf}
-use Rattle.iom_judge.specs.Certified.{first_in, is_given, trace_state, Begins, IsCertifiedBy, IsOpened, IsReadOf, Certify, Continues, ContinuesAs, Follows, HasJudged, HasTakenAll, Names}
+use Rattle.iom_judge.specs.Certified.{first_in, is_given, trace_state, Begins, IsCertifiedBy, IsOpened, IsReadOf, Certify, Continues, ContinuesAs, Follows, HasJudged, HasTakenAll, Names, with_begun, ShowsTables}
+use Rattle.iom_judge.specs.declared.choosing.Shown.{Shown}
+use Rattle.iom_judge.specs.declared.choosing.Tables.{Tables}
+use Rattle.iom_judge.specs.declared.choosing.Tables.TheVariants.{Own, OfAnother}
 use Rattle.iom_judge.specs.Happenings.{Happening, Came, GivenAway, TakenBack, Joined, Shared, Comes, CameAtEach, Happens, HappenInTurn, behind, event_of, events_of, outcomes_of, is_used, tables_chosen}
 use Rattle.iom_judge.specs.Sharing.{is_this, own_domain, tables_end, NoneWalks}
 use Rattle.iom_judge.specs.TraceStates.{TraceState}
@@ -314,3 +317,8 @@ tables_so_far device change outcome (suc k) has taken more tables happened are s
 pub begun_is_shown : (shown : Option Access) (chosen : Access) → IfSome shown (λ access. option_map_or (λ begun. begun) shown chosen ≡ access)
 begun_is_shown None chosen = tt
 begun_is_shown (Some access) chosen = refl
+
+-- which tables are shown doesn't hang on the access
+pub tables_shown : (tables : Tables) (event : Event) (shown : Shown) (choice : Choice) → ShowsTables tables event choice → ShowsTables tables event (with_begun shown choice)
+tables_shown (Own tables) event shown choice shows = shows
+tables_shown (OfAnother pages) event shown choice shows = shows

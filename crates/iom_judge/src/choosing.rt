@@ -1,6 +1,6 @@
 // What is chosen of what a line doesn't show.
 ghost use Rattle.std.specs.Prelude.{◌≡◌, ℕ, List, IfOk, IfSome, IsTrue, OnOk};
-ghost use Rattle.iom_judge.specs.Certified.{with_begun, ShowsRest, ShowsTables};
+ghost use Rattle.iom_judge.specs.Certified.{ShowsRest, ShowsTables};
 
 use crate::missing::{Begun, Missing};
 use crate::settled::{Reachable, first_reachable, frame_of, page_without};
@@ -81,16 +81,6 @@ fn list_of(alloc: Global, frames: &[u64]) -> Result<Sequence<u64>, AllocError>
     ensures { IfOk result (λ list. list ≡ frames.now) }
 {
     Ok(Sequence::from_vec(Vec::from_slice(alloc, frames)?))
-}
-
-/// The access that a step begins where this is chosen: the one that is shown, where one is.
-pub(crate) fn begun_by<'a>(reply: &Reported<'a>, choice: &'a Choice) -> &'a Access
-    ensures { result.now ≡ (with_begun reply.now.shown choice.now).access }
-{
-    match reply.shown.began {
-        Some(access) => access,
-        None => &choice.access,
-    }
 }
 
 /// How many frames the root of a device's tables has.

@@ -2,17 +2,20 @@
 ghost use Rattle.std.specs.Prelude.{◌≡◌, ◌∷◌, ◌&&◌, [], ℕ, List, None, IfOk, IfSome, OnOk, IsTrue, if◌then◌else◌, not};
 ghost use Rattle.iom_machine.specs.declared.choice.Choice as spec;
 ghost use Rattle.iom_trace_lines.specs.TraceLines.{said_of, SaysLine};
-ghost use Rattle.iom_judge.specs.Certified.{first_in, is_given, Continues, Follows, IsOpened, ShowsChoice};
+ghost use Rattle.iom_machine.specs.Machine.{ChosenStep};
+ghost use Rattle.iom_machine_judge.specs.Words.{Decides};
+ghost use Rattle.iom_judge.specs.Certified.{first_in, is_given, with_begun, Continues, Follows, IsOpened, ShowsChoice};
 ghost use Rattle.iom_judge.specs.Happenings.{is_used, Came};
 ghost use Rattle.iom_judge.specs.Sharing.{is_this, own_domain};
 
-use crate::choosing::{Chosen, Reported, Shown, Tables, begun_by, where_shown};
+use crate::choosing::{Chosen, Reported, Shown, Tables, where_shown};
 use crate::domains::Domains;
 use crate::guesses::Guesses;
 use crate::handed::Handed;
 use crate::stop::{Judged, Line, Stop};
 use crate::verdict::Finding;
 use iom_kept_state::KeptState;
+use iom_machine::Choice;
 use iom_machine_judge::judge;
 use iom_reasons::{Facts, Notes};
 use iom_script::WorldSize;
@@ -24,6 +27,23 @@ const DISKS: [u64; 4] = [0, 1, 2, 3];
 
 /// The frames of the largest world.
 const MOST_FRAMES: u64 = 1 << 40;
+
+/// Whether this may come, with what was chosen, and the access that a step began, where it is shown: then the next state is kept.
+fn may_come(
+    alloc: Global,
+    kept: &mut KeptState,
+    reply: &Reported<'_>,
+    choice: &Choice,
+) -> Result<bool, AllocError>
+    ensures { IfOk result (λ may. Decides may kept.old kept.new (λ before after.
+        ChosenStep (with_begun reply.now.shown choice.now) before reply.now.event.now reply.now.outcome.now after)) }
+{
+    let (event, outcome) = (reply.event, reply.outcome);
+    match reply.shown.began {
+        Some(access) => judge(alloc, kept, event, outcome, choice, access),
+        None => judge(alloc, kept, event, outcome, choice, &choice.access),
+    }
+}
 
 /// The machine of a trace, after the lines so far: the ledger machine, and beside it which frames were given to somebody else,
 /// and which devices share a domain.
@@ -94,16 +114,7 @@ impl TraceMachine {
             return Ok(false);
         }
         self.kept.limits = WorldLimits::Unlimited.to_limits();
-        let choice = &self.chosen.choice;
-        let access = begun_by(reply, choice);
-        let may_come = judge(
-            alloc,
-            &mut self.kept,
-            reply.event,
-            reply.outcome,
-            choice,
-            access,
-        )?;
+        let may_come = may_come(alloc, &mut self.kept, reply, &self.chosen.choice)?;
         self.kept.limits = limits;
         Ok(may_come)
     }
@@ -137,14 +148,7 @@ impl TraceMachine {
         self.handed.check(line, reply, choice)?;
         self.domains.check(line, &self.kept, reply)?;
         let made = self.guesses.place_of_oldest(&self.kept, reply.event);
-        if !judge(
-            line.alloc,
-            &mut self.kept,
-            reply.event,
-            reply.outcome,
-            choice,
-            begun_by(reply, choice),
-        )? {
+        if !may_come(line.alloc, &mut self.kept, reply, choice)? {
             return Err(self.refusal(line, reply)?);
         }
         self.note(line, reply, made)?;
