@@ -1,5 +1,4 @@
-// What changes of a domain: a page is granted, or released. It changes for each device of the domain, and a line may say it of
-// many pages.
+// What changes of a domain: a page is granted, or released. It changes for each device of the domain, and a line may say it of many pages.
 ghost use Rattle.std.specs.Prelude.{◌≡◌, ◌<◌, ◌∷◌, [], List, IfSome, IsTrue, OnOk, map};
 ghost use Rattle.iom_machine.specs.declared.choice.Choice as spec_choice;
 ghost use Rattle.iom_machine.specs.declared.event.Event as spec_event;
@@ -246,9 +245,8 @@ impl TraceMachine {
     ) -> Judged
         ensures { OnOk result (ContinuesAs self.old (Releases released.device released.page released.count ticket) [] self.new) }
     {
-        let (device, count) = (released.device, released.count);
-        let (page, given) = (released.page, Outcome::Ticket(ticket));
-        let first = Change::Release { page };
+        let (device, page, count) = (released.device, released.page, released.count);
+        let (first, given) = (Change::Release { page }, Outcome::Ticket(ticket));
         self.change_each(line, device, first, count, &given, false, &[])
     }
 }

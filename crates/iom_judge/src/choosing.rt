@@ -141,6 +141,7 @@ fn page_told(kept: &KeptState, id: DeviceId, reply: Translation) -> u64 {
 
 /// What asks for an access at an address of its device: the device, and the address and kind where they are shown.
 fn asked_by(reply: &Reported<'_>) -> Option<(DeviceId, Option<(u64, AccessKind)>)> {
+    let began = reply.shown.began;
     match reply.event {
         Event::Read {
             device,
@@ -164,10 +165,7 @@ fn asked_by(reply: &Reported<'_>) -> Option<(DeviceId, Option<(u64, AccessKind)>
         } => Some((*device, Some((*address, AccessKind::Write)))),
         Event::Step { device } => Some((
             *device,
-            reply
-                .shown
-                .began
-                .map(|access| (access.address, access.kind)),
+            began.map(|access| (access.address, access.kind)),
         )),
         _ => None,
     }

@@ -18,13 +18,10 @@ pub struct Findings {
 
 /// Whether the judging may go on behind what was found: a line is left out that is unlawful, and no other.
 fn is_left_out(verdict: &Verdict) -> bool {
-    matches!(
-        verdict,
-        Verdict::Stops {
-            finding: Finding::Unlawful(_),
-            ..
-        }
-    )
+    match verdict {
+        Verdict::Stops { finding, .. } => matches!(finding, Finding::Unlawful(_)),
+        Verdict::Lawful => false,
+    }
 }
 
 /// Adds what is found behind a line that was left out, until so many more are.

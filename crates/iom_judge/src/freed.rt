@@ -32,11 +32,11 @@ fn why_in_use(alloc: Global, kept: &KeptState, table: u64) -> Result<String, All
 impl TraceMachine {
     /// These tables are given back.
     #[inline(never)]
-    pub(crate) fn free_tables(&mut self, line: &Line<'_>, tables: &[u64]) -> Judged
-        ensures { OnOk result (ContinuesAs self.old TablesFreed tables.now self.new) }
+    pub(crate) fn free_tables(&mut self, line: &Line<'_>, freed: &[u64]) -> Judged
+        ensures { OnOk result (ContinuesAs self.old TablesFreed freed.now self.new) }
     {
         let kept = &self.kept;
-        let mut shown_ones = tables.iter();
+        let mut shown_ones = freed.iter();
         if let Some(table) = shown_ones.find(|table| !kept.may_give_back_all(from_ref(*table))) {
             if let Some(missing) = self.guesses.tables {
                 return Err(line.uncertified(missing)?);
@@ -44,10 +44,7 @@ impl TraceMachine {
             let why = why_in_use(line.alloc, kept, *table)?;
             return Err(line.unlawful(&why)?);
         }
-        let shown = Shown {
-            freed: tables,
-            ..NOTHING
-        };
+        let shown = Shown { freed, ..NOTHING };
         let reply = Reported {
             event: &Event::Poll,
             outcome: &Outcome::NoneConfirmed { timed_out: false },

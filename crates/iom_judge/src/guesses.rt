@@ -86,8 +86,7 @@ impl Guesses {
         Some(*missing)
     }
 
-    /// The access is made of which something was guessed at this place. One that isn't shown may be a write, where the line says no
-    /// more than that.
+    /// The access is made of which something was guessed at this place. One that isn't shown may be a write, where the line says no more than that.
     #[inline(never)]
     fn make(&mut self, place: usize, outcome: &Outcome) {
         let Some((_access, made)) = self.in_flight.swap_remove_index(place) else {
@@ -107,8 +106,7 @@ impl Guesses {
         }
     }
 
-    /// What the refusal of a grant or an attach depends on, where this is the first reason that is known: whether a frame is a table,
-    /// or how many are free.
+    /// What the refusal of a grant or an attach depends on, where this is the first reason that is known: whether a frame is a table, or how many are free.
     fn of_refusal(&self, first: Option<Refusal>, refusal: Refusal) -> Option<Missing> {
         match (refusal, first) {
             (Refusal::FrameReserved, None | Some(Refusal::IovaOutOfRange | Refusal::IovaBusy))

@@ -151,8 +151,7 @@ impl TraceMachine {
         if !may_come(line.alloc, &mut self.kept, reply, choice)? {
             return Err(self.refusal(line, reply)?);
         }
-        self.note(line, reply, made)?;
-        Ok(())
+        Ok(self.note(line, reply, made)?)
     }
 
     /// The line says this, which isn't an event with its outcome, with these frames of tables beside.
@@ -186,8 +185,7 @@ impl TraceMachine {
         }
     }
 
-    /// The line says this, with these frames of tables beside. It is left out where it may not come, but for those of its events
-    /// that came before.
+    /// The line says this, with these frames of tables beside. It is left out where it may not come, but for those of its events that came before.
     pub(crate) fn take_said<'x>(
         &mut self,
         line: &Line<'_>,

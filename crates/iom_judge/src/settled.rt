@@ -51,10 +51,9 @@ fn frame_somewhere(kept: &KeptState, id: DeviceId, kind: AccessKind) -> (u64, bo
     let held = first_reachable(kept, id, |it: Reachable| -> bool {
         it.is_held && it.rights.allows(kind)
     });
-    let any = match held {
-        None => first_reachable(kept, id, |it: Reachable| -> bool { it.rights.allows(kind) }),
-        held => held,
-    };
+    let any = held.or(first_reachable(kept, id, |it: Reachable| -> bool {
+        it.rights.allows(kind)
+    }));
     let frame = any.map_or(0, |it: Reachable| -> u64 { it.frame });
     let other = first_reachable(kept, id, |it: Reachable| -> bool {
         it.frame != frame && it.rights.allows(kind)

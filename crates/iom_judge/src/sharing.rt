@@ -88,8 +88,7 @@ impl TraceMachine {
     {
         for index in 0..self.kept.grants.page_count(first) {
             if let Some(event) = self.grant_of_held(device, first, index) {
-                let of_another = Tables::OfAnother(None);
-                self.go_on_showing(line, &event, &Outcome::Done, of_another)?;
+                self.go_on_showing(line, &event, &Outcome::Done, Tables::OfAnother(None))?;
             }
         }
         Ok(())
@@ -104,8 +103,7 @@ impl TraceMachine {
         if let Attachment::Attached { mode, .. } = self.kept.attachment(with) {
             return Ok(mode);
         }
-        let alloc = line.alloc;
-        let reason = format!(in alloc; "{with:06x} isn't attached")?;
+        let reason = format!(in line.alloc; "{with:06x} isn't attached")?;
         Err(line.unlawful(&reason)?)
     }
 

@@ -50,8 +50,6 @@ reason.
   --keep-going  leaves out a line that can't have come, and judges on: at most a thousand are left out
 ";
 
-const VERSION: &str = "iommu-judge 1.0\n";
-
 /// Tells on standard error what goes wrong with what has this name.
 fn complain(rt: &HostRuntime, name: &str, text: &str, status: u8) -> u8 {
     iom_programs::complain(rt, "iommu-judge", name, text);
@@ -119,8 +117,7 @@ fn print(rt: &HostRuntime, text: &str) -> io::Result<u8> {
     Ok(LAWFUL)
 }
 
-/// Judges the trace in the file that the words name, or the one on standard input. Where that is a terminal, nobody wrote one there:
-/// what is wanted is said.
+/// Judges the trace in the file that the words name, or on standard input. Where that is a terminal, it is said what is wanted.
 fn judge_named(rt: &HostRuntime, words: &[String], most: usize) -> io::Result<u8> {
     match words {
         [] if rt.stdin().is_terminal() => {
@@ -137,7 +134,7 @@ fn judge_named(rt: &HostRuntime, words: &[String], most: usize) -> io::Result<u8
 fn run(rt: &HostRuntime, words: &[String]) -> io::Result<u8> {
     match words {
         [word] if word.as_str() == "--help" => print(rt, HELP),
-        [word] if word.as_str() == "--version" => print(rt, VERSION),
+        [word] if word.as_str() == "--version" => print(rt, "iommu-judge 1.0\n"),
         [flag, words @ ..] if flag.as_str() == "--keep-going" => {
             judge_named(rt, words, MOST_LEFT_OUT)
         }
