@@ -21,7 +21,8 @@ fn lawful(alloc: Global, run: &Run) -> Result<usize, AllocError> {
             return Ok(number);
         }
         let choice = choices.choice(alloc, &kept, step)?;
-        if !judge(alloc, &mut kept, &step.event, &step.outcome, &choice)? {
+        let (event, outcome) = (&step.event, &step.outcome);
+        if !judge(alloc, &mut kept, event, outcome, &choice, &choice.access)? {
             return Ok(number);
         }
     }

@@ -500,7 +500,8 @@ fn runs_are_judged(rt: HostRuntime) {
 fn devices_after(rt: &impl Abort, alloc: Global, line: &Line) -> usize {
     let power_on = KeptState::power_on(alloc, Limits::of_model(), 64, 1, &[]);
     let mut kept = power_on.expect(rt, "memory for a world");
-    let step = judge(alloc, &mut kept, &line.event, &line.outcome, &line.choice);
+    let (choice, access) = (&line.choice, &line.choice.access);
+    let step = judge(alloc, &mut kept, &line.event, &line.outcome, choice, access);
     assert!(rt; step.expect(rt, "memory for the judge"));
     kept.devices.as_slice().len()
 }
