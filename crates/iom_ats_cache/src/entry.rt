@@ -2,7 +2,7 @@ use iom_base::Rights;
 use iom_fabric::PageNumber;
 
 /// What a device keeps of a page: its frame of 4 KiB, and what may be done there.
-#[derive(Clone, Copy, PartialEq, Eq, Debug)]
+#[derive(Clone, Copy, PartialEq, Eq)]
 pub struct Entry {
     pub page: PageNumber,
     pub frame: u32,

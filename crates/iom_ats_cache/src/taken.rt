@@ -1,5 +1,5 @@
 /// What a device does with an answer.
-#[derive(Clone, Copy, PartialEq, Eq, Debug)]
+#[derive(Clone, Copy, PartialEq, Eq)]
 pub enum Taken {
     /// It is an entry from now on.
     Kept,

@@ -3,7 +3,7 @@ ghost use Rattle.iom_base.specs.Sizes.{levels_of, page_limit_of, table_limit_of}
 
 /// How many addresses the tables of a stage translate (RISC-V Privileged Architecture): a first stage's, or, in four
 /// times as many addresses, a second's.
-#[derive(Clone, Copy, PartialEq, Eq, Debug)]
+#[derive(Clone, Copy, PartialEq, Eq)]
 pub enum Size {
     /// Three levels: Sv39, and Sv39x4.
     Sv39,

@@ -4,7 +4,7 @@ use iom_fabric::Translation;
 use iom_iommu::Reply;
 
 /// What comes of an access through a device's own cache of translations.
-#[derive(Clone, Copy, PartialEq, Eq, Debug)]
+#[derive(Clone, Copy, PartialEq, Eq)]
 pub enum CacheReply {
     /// The cache has no frame for it.
     Miss,
@@ -14,7 +14,7 @@ pub enum CacheReply {
 }
 
 /// What comes of a message that arrives.
-#[derive(Clone, Copy, PartialEq, Eq, Debug)]
+#[derive(Clone, Copy, PartialEq, Eq)]
 pub enum Delivered {
     /// There is no message at the place.
     NoMessage,

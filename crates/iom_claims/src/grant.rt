@@ -5,7 +5,7 @@ ghost use Rattle.iom_claims.specs.Rows.{is_at, lets};
 use iom_base::{AccessKind, DeviceId, Rights};
 
 /// What a device may reach: the frame, at the page, with the right.
-#[derive(Clone, Copy, PartialEq, Eq, Debug)]
+#[derive(Clone, Copy, PartialEq, Eq)]
 pub struct Grant {
     pub device: DeviceId,
     pub page: u64,
@@ -14,7 +14,7 @@ pub struct Grant {
 }
 
 /// A claim that isn't done: its number, and the grant that it withdrew.
-#[derive(Clone, Copy, PartialEq, Eq, Debug)]
+#[derive(Clone, Copy, PartialEq, Eq)]
 pub struct OpenClaim {
     pub number: u32,
     pub grant: Grant,

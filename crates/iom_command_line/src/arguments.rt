@@ -10,7 +10,7 @@ use clap::{Arg, ArgAction, Command};
 use std::alloc::{AllocError, Global};
 
 /// What a command line says.
-#[derive(Debug, Drop)]
+#[derive(Drop)]
 pub struct Args<'a> {
     /// Whether the counts are to stand behind each line.
     pub trace: bool,

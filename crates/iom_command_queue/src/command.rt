@@ -6,7 +6,7 @@ use crate::operation::Operation;
 use crate::values::{DeviceNumber, FenceAddress, PageNumber, Pscid};
 
 /// What software asks of the IOMMU. A field that is left out is None.
-#[derive(Clone, Copy, PartialEq, Eq, Debug)]
+#[derive(Clone, Copy, PartialEq, Eq)]
 pub enum Command {
     /// IOTINVAL.VMA: cached translations of the first stage go. Of which guest (GSCID), of which process
     /// (PSCID), of which page.
@@ -40,14 +40,14 @@ pub enum Command {
 }
 
 /// What a fence stores once it is complete.
-#[derive(Clone, Copy, PartialEq, Eq, Debug)]
+#[derive(Clone, Copy, PartialEq, Eq)]
 pub struct FenceStore {
     pub address: FenceAddress,
     pub data: u32,
 }
 
 /// Which of its translations a device is to drop.
-#[derive(Clone, Copy, PartialEq, Eq, Debug)]
+#[derive(Clone, Copy, PartialEq, Eq)]
 pub enum AtsRange {
     Page(PageNumber),
     Everything,

@@ -2,7 +2,7 @@ use crate::command::Command;
 use crate::illegal::Illegal;
 
 /// What stands in one entry of the command queue.
-#[derive(Clone, Copy, PartialEq, Eq, Debug)]
+#[derive(Clone, Copy, PartialEq, Eq)]
 pub enum QueueEntry {
     Command(Command),
     /// Bytes that are no command.

@@ -7,7 +7,7 @@ use crate::illegal::Illegal;
 use std::fmt;
 
 /// The commands by name, as opcode and func3 tell them apart.
-#[derive(Clone, Copy, PartialEq, Eq, Debug)]
+#[derive(Clone, Copy, PartialEq, Eq)]
 pub enum Operation {
     /// IOTINVAL.VMA
     IotinvalVma,

@@ -1,7 +1,7 @@
 use iom_base::DeviceId;
 
 /// An invalidation request that a device has still to complete.
-#[derive(Clone, Copy, PartialEq, Eq, Debug, Default)]
+#[derive(Clone, Copy, PartialEq, Eq, Default)]
 pub struct Slot {
     /// The number of the request, which its completion repeats.
     pub serial: u64,

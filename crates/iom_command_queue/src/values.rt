@@ -4,7 +4,7 @@ ghost use Rattle.std.specs.Prelude.{◌≡◌, ◌↔◌, ◌<◌, ◌%◌, ◌^
 use std::marker::Model;
 
 /// A process soft-context identifier (PSCID): a number of 20 bits.
-#[derive(Clone, Copy, PartialEq, Eq, Debug)]
+#[derive(Clone, Copy, PartialEq, Eq)]
 pub struct Pscid {
     number: u32,
 }
@@ -44,7 +44,7 @@ impl Pscid {
 }
 
 /// The number of a page: an address without its lowest 12 bits, so a number of 52 bits.
-#[derive(Clone, Copy, PartialEq, Eq, Debug)]
+#[derive(Clone, Copy, PartialEq, Eq)]
 pub struct PageNumber {
     number: u64,
 }
@@ -84,7 +84,7 @@ impl PageNumber {
 }
 
 /// The number of a device as commands name it (DID, or RID with DSEG above it): a number of 24 bits.
-#[derive(Clone, Copy, PartialEq, Eq, Debug)]
+#[derive(Clone, Copy, PartialEq, Eq)]
 pub struct DeviceNumber {
     number: u32,
 }
@@ -124,7 +124,7 @@ impl DeviceNumber {
 }
 
 /// The address at which a fence stores its data: a multiple of 4.
-#[derive(Clone, Copy, PartialEq, Eq, Debug)]
+#[derive(Clone, Copy, PartialEq, Eq)]
 pub struct FenceAddress {
     address: u64,
 }

@@ -7,7 +7,7 @@ use iom_base::Cause;
 pub const CONTEXT_SIZE: usize = 32;
 
 /// What a lawful device context says, one that is valid and in which nothing is misconfigured.
-#[derive(Clone, Copy, PartialEq, Eq, Debug)]
+#[derive(Clone, Copy, PartialEq, Eq)]
 pub struct Context {
     /// Whether the device may ask for translations, and make translated requests (EN_ATS).
     pub en_ats: bool,

@@ -2,7 +2,7 @@ use crate::fields::field;
 use iom_base::{Cause, Ppn};
 
 /// A lawful non-leaf entry of the directory: it names the next page of the directory, one level down.
-#[derive(Clone, Copy, PartialEq, Eq, Debug)]
+#[derive(Clone, Copy, PartialEq, Eq)]
 pub struct NonLeafEntry {
     pub next: Ppn,
 }

@@ -8,7 +8,7 @@ use crate::values::GuestRoot;
 use iom_base::{Ppn, Size};
 
 /// The first stage of a context (`fsc`, where PDTV is 0).
-#[derive(Clone, Copy, PartialEq, Eq, Debug)]
+#[derive(Clone, Copy, PartialEq, Eq)]
 pub enum FirstStage {
     /// No translation.
     Bare,
@@ -17,7 +17,7 @@ pub enum FirstStage {
 }
 
 /// The second stage of a context (`iohgatp`).
-#[derive(Clone, Copy, PartialEq, Eq, Debug)]
+#[derive(Clone, Copy, PartialEq, Eq)]
 pub enum SecondStage {
     /// No translation.
     Bare,

@@ -6,7 +6,7 @@ use crate::fields::field;
 
 /// A process soft-context identifier (PSCID), by which translations of a first stage are told apart: a number
 /// of 20 bits.
-#[derive(Clone, Copy, PartialEq, Eq, Debug)]
+#[derive(Clone, Copy, PartialEq, Eq)]
 pub struct Pscid {
     number: u32,
     ghost in_range: { number < 2 ^ 20 },
@@ -48,7 +48,7 @@ impl Pscid {
 
 /// The page number of the root of a second stage, which has 16 KiB and is aligned to that: a multiple of 4, of
 /// 44 bits.
-#[derive(Clone, Copy, PartialEq, Eq, Debug)]
+#[derive(Clone, Copy, PartialEq, Eq)]
 pub struct GuestRoot {
     number: u64,
     ghost in_range: { number < 2 ^ 44 },

@@ -1,7 +1,7 @@
 use iom_base::GrantRights;
 
 /// A frame that a device is to have at a page, with rights there.
-#[derive(Clone, Copy, PartialEq, Eq, Debug)]
+#[derive(Clone, Copy, PartialEq, Eq)]
 pub struct Mapping {
     /// The page in the device's address space.
     pub page: u64,

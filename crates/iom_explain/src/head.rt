@@ -10,7 +10,7 @@ use iom_machine::CommandName;
 use std::fmt;
 
 /// An access of a device that a fence waits for.
-#[derive(Clone, Copy, PartialEq, Eq, Debug)]
+#[derive(Clone, Copy, PartialEq, Eq)]
 pub struct AwaitedAccess {
     pub device: DeviceId,
     /// Its number among the device's accepted accesses, from 1, as `accepted N` says it.
@@ -18,7 +18,7 @@ pub struct AwaitedAccess {
 }
 
 /// What the command queue stands at.
-#[derive(Clone, Copy, PartialEq, Eq, Debug)]
+#[derive(Clone, Copy, PartialEq, Eq)]
 pub enum HeadWait {
     /// Command processing is off or stopped.
     Stopped,

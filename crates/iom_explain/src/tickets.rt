@@ -10,7 +10,7 @@ use iom_world::World;
 use std::fmt;
 
 /// What a ticket that isn't confirmed waits for.
-#[derive(Clone, Copy, PartialEq, Eq, Debug)]
+#[derive(Clone, Copy, PartialEq, Eq)]
 pub enum TicketWait {
     /// Its fence is done: the next poll confirms it.
     NextPoll,

@@ -12,14 +12,14 @@ use std::marker::Model;
 pub const MAX_MESSAGES: usize = 64;
 
 /// A message, and whose link it is on: who sent it, if a device did, and else whom it is for.
-#[derive(Clone, Copy, PartialEq, Eq, Debug)]
+#[derive(Clone, Copy, PartialEq, Eq)]
 pub struct OnLink {
     pub device: DeviceId,
     pub message: Message,
 }
 
 /// What became of a copy.
-#[derive(Clone, Copy, PartialEq, Eq, Debug)]
+#[derive(Clone, Copy, PartialEq, Eq)]
 pub enum Repeat {
     Repeated,
     /// There was no room for it.

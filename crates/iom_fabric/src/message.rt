@@ -2,7 +2,7 @@ use crate::page_number::PageNumber;
 use iom_base::{Cause, Rights};
 
 /// What a question is answered with.
-#[derive(Clone, Copy, PartialEq, Eq, Debug)]
+#[derive(Clone, Copy, PartialEq, Eq)]
 pub enum Translation {
     /// The frame of the page, and what may be done there.
     Page { frame: u32, rights: Rights },
@@ -11,7 +11,7 @@ pub enum Translation {
 }
 
 /// What a device drops.
-#[derive(Clone, Copy, PartialEq, Eq, Debug)]
+#[derive(Clone, Copy, PartialEq, Eq)]
 pub enum Range {
     Page(PageNumber),
     Everything,
@@ -19,7 +19,7 @@ pub enum Range {
 
 /// What is said on the link between a device and the IOMMU. Which device it is stands beside, since no
 /// message says who sends it.
-#[derive(Clone, Copy, PartialEq, Eq, Debug)]
+#[derive(Clone, Copy, PartialEq, Eq)]
 pub enum Message {
     /// A device asks for the translation of a page, in its epoch (Translation Request, section 10.2).
     Ask {

@@ -3,7 +3,7 @@ ghost use Rattle.std.specs.Prelude.{◌≡◌, ◌<◌, ◌^◌, ◌↔◌, IsSo
 use std::marker::Model;
 
 /// The number of a page of the 64-bit address space: below 2^52, since pages have 4,096 bytes.
-#[derive(Clone, Copy, PartialEq, Eq, Debug)]
+#[derive(Clone, Copy, PartialEq, Eq)]
 pub struct PageNumber(u64);
 
 impl Model for PageNumber {

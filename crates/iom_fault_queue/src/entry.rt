@@ -9,7 +9,7 @@ use iom_phys_mem::{Bytes, Memory};
 ///
 /// The IOMMU writes records alone, and only where there is memory. The other two are there for a
 /// queue that somebody else wrote into, or whose base was set to a place outside memory.
-#[derive(Clone, Copy, PartialEq, Eq, Debug)]
+#[derive(Clone, Copy, PartialEq, Eq)]
 pub enum Entry {
     /// A record.
     Record(Record),

@@ -28,7 +28,7 @@ const DID: u32 = 40;
 ///
 /// Each record has its bytes: its device id has 24 bits, and iotval2 is one that can stand beside its
 /// cause.
-#[derive(Clone, Copy, PartialEq, Eq, Debug)]
+#[derive(Clone, Copy, PartialEq, Eq)]
 pub struct Record {
     cause: Cause,
     transaction: Transaction,
@@ -51,7 +51,7 @@ impl Model for Record {
 }
 
 /// A request that faulted.
-#[derive(Clone, Copy, PartialEq, Eq, Debug)]
+#[derive(Clone, Copy, PartialEq, Eq)]
 pub struct FaultedRequest {
     /// Who asked: below 2^24.
     pub device: DeviceId,

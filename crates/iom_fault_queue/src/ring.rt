@@ -16,7 +16,7 @@ use iom_phys_mem::{Bytes, Memory};
 use iom_registers::{Mmio, Register, Registers, index_after};
 
 /// What became of a record.
-#[derive(Clone, Copy, PartialEq, Eq, Debug)]
+#[derive(Clone, Copy, PartialEq, Eq)]
 pub enum Put {
     /// It is the newest of the queue.
     Written,

@@ -5,7 +5,7 @@ use iom_base::AccessKind;
 
 /// What a device asked for (IOMMU specification, section 3.2, encodings of TTYP): those types that the
 /// model's devices make.
-#[derive(Clone, Copy, PartialEq, Eq, Debug)]
+#[derive(Clone, Copy, PartialEq, Eq)]
 pub enum Transaction {
     /// An untranslated request that reads, and doesn't execute.
     UntranslatedRead,

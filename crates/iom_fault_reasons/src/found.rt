@@ -10,7 +10,7 @@ use iom_stepped_walk::{EntryLoad, Flaw};
 use iom_walk_stops::{Stages, TablesEnd, end_of_tables};
 
 /// From where the context of a device is taken.
-#[derive(Clone, Copy, PartialEq, Eq, Debug)]
+#[derive(Clone, Copy, PartialEq, Eq)]
 pub enum ContextSource {
     /// It is cached.
     Cache,
@@ -19,7 +19,7 @@ pub enum ContextSource {
 }
 
 /// Where the way of an untranslated request ends.
-#[derive(Clone, Copy, PartialEq, Eq, Debug)]
+#[derive(Clone, Copy, PartialEq, Eq)]
 pub enum WhyFault {
     /// `ddtp` has the mode Off: no request is allowed.
     DirectoryOff,

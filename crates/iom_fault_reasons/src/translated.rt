@@ -16,7 +16,7 @@ use iom_stepped_walk::EntryLoad;
 use iom_walk_stops::{DirectoryEnd, end_of_directory};
 
 /// Where the way of a request ends that says that it is translated.
-#[derive(Clone, Copy, PartialEq, Eq, Debug)]
+#[derive(Clone, Copy, PartialEq, Eq)]
 pub enum WhyTranslated {
     /// `ddtp` has the mode Off: no request is allowed.
     DirectoryOff,

@@ -30,7 +30,7 @@ use iom_virtio_blk::{Blk, Disk, Reply as Became, Step, WantedAccess};
 use iom_virtqueue::{ChainFault, Want};
 
 /// What a step of a block device was, with the access that it began.
-#[derive(Clone, Copy, PartialEq, Eq, Debug)]
+#[derive(Clone, Copy, PartialEq, Eq)]
 pub enum Stepped {
     /// It wants an access, which the IOMMU answered so.
     Began(Reply),

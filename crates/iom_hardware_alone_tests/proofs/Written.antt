@@ -1,5 +1,5 @@
--- Hardware stays sound when software writes a register, or is refused.
-use Rattle.std.proofs.Common.{◌≡◌, ℕ, Result, Ok, Err, sym, subst}
+-- Hardware stays sound when software writes a register, or is refused; and so does what is under way beside it.
+use Rattle.std.proofs.Common.{◌≡◌, ℕ, List, Result, Ok, Err, sym, subst}
 use Rattle.iom_iommu.specs.Parts.{after_write}
 use Rattle.iom_registers.specs.Places.{changed_by}
 use Rattle.iom_registers.specs.declared.register.RegFault.{RegFault}
@@ -8,6 +8,8 @@ use Rattle.iom_board.specs.BoardParts.{BoardParts}
 use Rattle.iom_iommu.specs.OwnIommu.{Iommu}
 use Rattle.iom_board.specs.Software.{SoftwareKeepsInvariant, WritesAreSoftware}
 use Rattle.iom_board.specs.Invariant.{BoardInvariant}
+use Rattle.iom_stepped_board.specs.Beside.{AreBeside, SoftwareStaysBeside}
+use Rattle.iom_walks.specs.Walks.{WalkRow}
 
 pub written_sound : SoftwareKeepsInvariant → WritesAreSoftware → (old : BoardParts) (events value : ℕ) (register : Result Register RegFault) (new : Iommu) → BoardInvariant old events
     → new ≡ changed_by (after_write old.iommu) old.iommu value register → BoardInvariant (record old { iommu = new }) events
@@ -15,3 +17,10 @@ written_sound keeps writes old events value (Ok register) new invariants is =
     let after : BoardParts = record old { iommu = after_write old.iommu register value } in
     subst (λ (i : Iommu). BoardInvariant (record old { iommu = i }) events) (sym is) (keeps old after events invariants (writes old register value))
 written_sound keeps writes old events value (Err fault) new invariants is = subst (λ (i : Iommu). BoardInvariant (record old { iommu = i }) events) (sym is) invariants
+
+pub written_beside : SoftwareStaysBeside → WritesAreSoftware → (old : BoardParts) (rows : List WalkRow) (value : ℕ) (register : Result Register RegFault) (new : Iommu) → AreBeside old rows
+    → new ≡ changed_by (after_write old.iommu) old.iommu value register → AreBeside (record old { iommu = new }) rows
+written_beside stays writes old rows value (Ok register) new beside is =
+    let after : BoardParts = record old { iommu = after_write old.iommu register value } in
+    subst (λ (i : Iommu). AreBeside (record old { iommu = i }) rows) (sym is) (stays old after rows beside (writes old register value))
+written_beside stays writes old rows value (Err fault) new beside is = subst (λ (i : Iommu). AreBeside (record old { iommu = i }) rows) (sym is) beside

@@ -15,3 +15,5 @@ mod reasons;
 mod runs;
 #[cfg(test)]
 mod setup;
+#[cfg(test)]
+mod stepped;

@@ -7,7 +7,7 @@ use iom_script::{BUFFER_SIZE, LineBuffer};
 pub const LONGEST_ANSWER: usize = 26;
 
 /// What a line is answered with, where it is no outcome of a world.
-#[derive(Clone, Copy, PartialEq, Eq, Debug)]
+#[derive(Clone, Copy, PartialEq, Eq)]
 pub enum Answer {
     /// A register's value.
     Value(u64),

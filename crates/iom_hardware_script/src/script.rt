@@ -2,7 +2,7 @@ use iom_base::{DeviceId, GrantRights, Sequence};
 use iom_machine::Event;
 
 /// What software says that its devices may reach, and what becomes of frames.
-#[derive(Clone, Copy, PartialEq, Eq, Debug)]
+#[derive(Clone, Copy, PartialEq, Eq)]
 pub enum Claim {
     /// From here on the device may reach the frame at the page, with the right.
     Grant {
@@ -40,7 +40,7 @@ pub enum Claim {
 }
 
 /// How hardware is asked to act by itself.
-#[derive(Clone, Copy, PartialEq, Eq, Debug)]
+#[derive(Clone, Copy, PartialEq, Eq)]
 pub enum Help {
     /// Before each later line of software it takes steps that are drawn from this seed; where the seed is 0, none.
     Auto {

@@ -12,7 +12,7 @@ use iom_registers::RegFault;
 use iom_tlb::Space;
 
 /// What comes of a line.
-#[derive(Clone, Copy, PartialEq, Eq, Debug)]
+#[derive(Clone, Copy, PartialEq, Eq)]
 pub enum Answer {
     /// A device is plugged in, or isn't.
     Plugged(Result<(), Refusal>),
@@ -56,7 +56,7 @@ pub enum Answer {
 }
 
 /// What is found of a claim.
-#[derive(Clone, Copy, PartialEq, Eq, Debug)]
+#[derive(Clone, Copy, PartialEq, Eq)]
 pub enum ClaimAnswer {
     /// It is made, and true.
     Good,
@@ -73,7 +73,7 @@ pub enum ClaimAnswer {
 }
 
 /// Why a claim isn't true: the first that applies.
-#[derive(Clone, Copy, PartialEq, Eq, Debug)]
+#[derive(Clone, Copy, PartialEq, Eq)]
 pub enum Wrong {
     /// A device holds the frame.
     Held,
@@ -90,7 +90,7 @@ pub enum Wrong {
 }
 
 /// What a request finds at a page.
-#[derive(Clone, Copy, PartialEq, Eq, Debug)]
+#[derive(Clone, Copy, PartialEq, Eq)]
 pub enum Found {
     /// The device has no context.
     NoContext,

@@ -34,7 +34,7 @@ use iom_way_survey::{Conflict, Survey};
 use std::alloc::{AllocError, Global};
 
 /// What comes of a line, and whether the access that it made is one that nothing claimed allows.
-#[derive(Clone, Copy, PartialEq, Eq, Debug)]
+#[derive(Clone, Copy, PartialEq, Eq)]
 pub struct Stepped {
     pub answer: Answer,
     pub violated: bool,

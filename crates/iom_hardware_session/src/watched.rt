@@ -6,7 +6,7 @@ use crate::answer::{ClaimAnswer, Wrong};
 use iom_base::DeviceId;
 
 /// What a claim said that was good.
-#[derive(Clone, Copy, PartialEq, Eq, Debug)]
+#[derive(Clone, Copy, PartialEq, Eq)]
 pub enum GoodClaim {
     /// What the device withdrew on the frame, under the number, is out of its reach.
     Done {
@@ -54,7 +54,7 @@ impl GoodClaim {
 }
 
 /// A claim that was good, and why it isn't any more since the last line, if so.
-#[derive(Clone, Copy, PartialEq, Eq, Debug)]
+#[derive(Clone, Copy, PartialEq, Eq)]
 pub struct Watched {
     pub claim: GoodClaim,
     pub why: Option<Wrong>,

@@ -1,7 +1,7 @@
 use iom_base::AccessKind;
 
 /// An access in flight, but for the bytes of a write.
-#[derive(Clone, Copy, PartialEq, Eq, Debug)]
+#[derive(Clone, Copy, PartialEq, Eq)]
 pub(crate) struct AccessHeader {
     /// The address that the device asked for.
     pub(crate) address: u64,

@@ -2,7 +2,7 @@ use iom_base::{AccessKind, DeviceId};
 
 /// An access that is made: where in memory its bytes are. Those of a read are in the frame to be read,
 /// those of a write stand there.
-#[derive(Clone, Copy, PartialEq, Eq, Debug)]
+#[derive(Clone, Copy, PartialEq, Eq)]
 pub struct MadeAt {
     pub device: DeviceId,
     /// The frame that it was translated to.

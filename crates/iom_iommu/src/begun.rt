@@ -1,7 +1,7 @@
 use crate::reply::Reply;
 
 /// What becomes of a request where the IOMMU makes one load of a walk an event.
-#[derive(Clone, Copy, PartialEq, Eq, Debug)]
+#[derive(Clone, Copy, PartialEq, Eq)]
 pub enum Begun {
     /// It is answered at once.
     Answered(Reply),
@@ -12,7 +12,7 @@ pub enum Begun {
 }
 
 /// What becomes of a device's request at its next load.
-#[derive(Clone, Copy, PartialEq, Eq, Debug)]
+#[derive(Clone, Copy, PartialEq, Eq)]
 pub enum Load {
     /// None of it is under way.
     Nothing,

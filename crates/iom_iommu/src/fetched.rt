@@ -1,7 +1,7 @@
 use iom_command_queue::Command;
 
 /// What a fetch of the command at the head answers.
-#[derive(Clone, Copy, PartialEq, Eq, Debug)]
+#[derive(Clone, Copy, PartialEq, Eq)]
 pub enum Fetched {
     /// The command is done, and the head stands after it.
     Did(Command),

@@ -1,7 +1,7 @@
 use iom_base::Cause;
 
 /// What a device's request is answered.
-#[derive(Clone, Copy, PartialEq, Eq, Debug)]
+#[derive(Clone, Copy, PartialEq, Eq)]
 pub enum Reply {
     /// The access is in flight now, and has this number among the device's accepted accesses, from 1.
     Accepted(u64),

@@ -2,7 +2,7 @@
 
 use crate::frames::KeptFrames;
 use crate::grants::KeptGrants;
-use iom_base::Sequence;
+use iom_base::{Sequence, Spare};
 use iom_machine::{Device, Limits};
 use std::alloc::{AllocError, Global};
 
@@ -18,6 +18,8 @@ pub struct KeptState {
     pub devices: Sequence<Device>,
     /// The numbers of the disks that were never put into a device.
     pub disks: Sequence<u64>,
+    /// For the bytes of the next write that is accepted.
+    pub spare: Spare,
 }
 
 impl KeptState {
@@ -45,6 +47,7 @@ impl KeptState {
             grants: KeptGrants::new(alloc)?,
             devices: Sequence::new(alloc),
             disks: Sequence::from_vec(Vec::from_slice(alloc, disks)?),
+            spare: Spare::new(alloc),
         })
     }
 }

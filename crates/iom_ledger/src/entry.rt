@@ -1,7 +1,7 @@
 use iom_base::{DeviceId, Rights};
 
 /// One thing that happened to the grants.
-#[derive(Clone, Copy, PartialEq, Eq, Debug)]
+#[derive(Clone, Copy, PartialEq, Eq)]
 pub enum HistoryEntry {
     /// The device got the frame at the page, with the right.
     Granted {

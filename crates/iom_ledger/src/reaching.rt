@@ -8,7 +8,7 @@ use crate::page_row::PageRow;
 use iom_base::{DeviceId, Rights};
 
 /// A page at which a device holds a frame, or at which the frame lingers.
-#[derive(Clone, Copy, PartialEq, Eq, Debug)]
+#[derive(Clone, Copy, PartialEq, Eq)]
 pub struct Reach {
     /// The page's index among those of the device, as [`page_at`](crate::Ledger::page_at) counts them.
     pub index: usize,

@@ -7,7 +7,7 @@ use iom_base::Sequence;
 use iom_litmus_test::Spot;
 
 /// What was done.
-#[derive(Clone, Copy, PartialEq, Eq, Debug)]
+#[derive(Clone, Copy, PartialEq, Eq)]
 pub enum Deed {
     /// A cell was run.
     Cell(Spot),

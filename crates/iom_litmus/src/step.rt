@@ -3,7 +3,7 @@ ghost use Rattle.std.specs.Prelude.{◌≡◌, ◌↔◌, IsTrue};
 use iom_base::DeviceId;
 
 /// What hardware does by itself.
-#[derive(Clone, Copy, PartialEq, Eq, Debug)]
+#[derive(Clone, Copy, PartialEq, Eq)]
 pub enum HardwareStep {
     /// It fetches a command.
     Fetch,
@@ -22,7 +22,7 @@ pub enum HardwareStep {
 }
 
 /// One step of a schedule.
-#[derive(Clone, Copy, PartialEq, Eq, Debug)]
+#[derive(Clone, Copy, PartialEq, Eq)]
 pub enum Step {
     /// The column at this place, from 0, runs its next cell.
     Column(usize),

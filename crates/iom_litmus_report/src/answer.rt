@@ -7,7 +7,7 @@ use iom_litmus_test::{QuestionKind, Spot, Test};
 use std::alloc::{AllocError, Global};
 
 /// How many schedules the proposition holds of.
-#[derive(Clone, Copy, PartialEq, Eq, Debug)]
+#[derive(Clone, Copy, PartialEq, Eq)]
 pub struct Verdict {
     pub positive: u64,
     pub negative: u64,

@@ -10,7 +10,7 @@ use iom_virtio_blk::MemoryDisk;
 use std::alloc::{AllocError, Global};
 
 /// How a question was answered.
-#[derive(Clone, Copy, PartialEq, Eq, Debug)]
+#[derive(Clone, Copy, PartialEq, Eq)]
 pub enum Finding {
     /// As the test says.
     Ok,
@@ -21,7 +21,7 @@ pub enum Finding {
 }
 
 /// What is wanted of a search beside the histogram.
-#[derive(Clone, Copy, PartialEq, Eq, Debug)]
+#[derive(Clone, Copy, PartialEq, Eq)]
 pub struct Asked {
     /// The places that it may find, from 1.
     pub most: usize,

@@ -5,7 +5,7 @@ ghost use Rattle.iom_litmus_test.specs.Globs.{Matches, is_match};
 use iom_base::Sequence;
 
 /// One part of a glob.
-#[derive(Clone, Copy, PartialEq, Eq, Debug)]
+#[derive(Clone, Copy, PartialEq, Eq)]
 pub enum GlobPart {
     /// `*`: any bytes, or none.
     Anything,

@@ -1,5 +1,5 @@
 /// What hardware may do by itself, any number of times.
-#[derive(Clone, Copy, PartialEq, Eq, Debug)]
+#[derive(Clone, Copy, PartialEq, Eq)]
 pub struct Parts {
     /// It fetches commands.
     pub fetch: bool,
@@ -14,7 +14,7 @@ pub struct Parts {
 }
 
 /// How many times hardware may do what it seldom does.
-#[derive(Clone, Copy, PartialEq, Eq, Debug)]
+#[derive(Clone, Copy, PartialEq, Eq)]
 pub struct Budgets {
     /// Messages that are lost.
     pub drops: u32,

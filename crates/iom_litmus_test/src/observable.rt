@@ -3,7 +3,7 @@ ghost use Rattle.std.specs.Prelude.{◌≡◌, ◌↔◌, IsTrue};
 use iom_base::{AccessKind, DeviceId, Sequence};
 
 /// A cell of a test.
-#[derive(Clone, Copy, PartialEq, Eq, Debug)]
+#[derive(Clone, Copy, PartialEq, Eq)]
 pub struct Spot {
     /// The place of the column, from 0.
     pub column: usize,
@@ -12,7 +12,7 @@ pub struct Spot {
 }
 
 /// An access that was made.
-#[derive(Clone, Copy, PartialEq, Eq, Debug)]
+#[derive(Clone, Copy, PartialEq, Eq)]
 pub struct Touch {
     pub device: DeviceId,
     pub kind: AccessKind,
@@ -20,7 +20,7 @@ pub struct Touch {
 }
 
 /// Accesses that a test asks for.
-#[derive(Clone, Copy, PartialEq, Eq, Debug)]
+#[derive(Clone, Copy, PartialEq, Eq)]
 pub struct Reach {
     pub device: DeviceId,
     pub frame: u64,
@@ -31,7 +31,7 @@ pub struct Reach {
 }
 
 /// What a test looks at in a schedule.
-#[derive(Clone, Copy, PartialEq, Eq, Debug)]
+#[derive(Clone, Copy, PartialEq, Eq)]
 pub enum Observable {
     /// What the cell was answered.
     Answer(Spot),

@@ -13,7 +13,7 @@ pub struct NumberedText {
 }
 
 /// How a proposition is asked.
-#[derive(Clone, Copy, PartialEq, Eq, Debug)]
+#[derive(Clone, Copy, PartialEq, Eq)]
 pub enum QuestionKind {
     /// `exists`: it holds of some outcome.
     Exists,

@@ -4,7 +4,7 @@ use iom_fabric::Translation;
 use iom_virtqueue::ChainFault;
 
 /// A command of the IOMMU's command queue, by its name.
-#[derive(Clone, Copy, PartialEq, Eq, Debug)]
+#[derive(Clone, Copy, PartialEq, Eq)]
 pub enum CommandName {
     IotinvalVma,
     IotinvalGvma,
@@ -14,7 +14,7 @@ pub enum CommandName {
 }
 
 /// What a fetch did.
-#[derive(Clone, Copy, PartialEq, Eq, Debug)]
+#[derive(Clone, Copy, PartialEq, Eq)]
 pub enum Fetched {
     /// It took the command, and did it.
     Did(CommandName),
@@ -27,13 +27,13 @@ pub enum Fetched {
 }
 
 /// A fault record, by its four words (IOMMU specification, section 3.2, "Fault/Event-Queue (FQ)").
-#[derive(Clone, Copy, PartialEq, Eq, Debug)]
+#[derive(Clone, Copy, PartialEq, Eq)]
 pub struct FaultRecord {
     pub words: [u64; 4],
 }
 
 /// What a block device's step was that began no access.
-#[derive(Clone, Copy, PartialEq, Eq, Debug)]
+#[derive(Clone, Copy, PartialEq, Eq)]
 pub enum BlockStep {
     /// No queue is set, or the driver has no new request.
     Idle,
@@ -133,7 +133,7 @@ pub enum Outcome {
 }
 
 /// Counts that stand beside an outcome.
-#[derive(Clone, Copy, PartialEq, Eq, Debug)]
+#[derive(Clone, Copy, PartialEq, Eq)]
 pub struct Trace {
     /// Tickets that are not confirmed.
     pub tickets: u64,

@@ -4,7 +4,7 @@ use iom_base::{
 use iom_ledger::{HistoryEntry, MAX_PENDING};
 
 /// How a device is attached.
-#[derive(Clone, Copy, PartialEq, Eq, Debug)]
+#[derive(Clone, Copy, PartialEq, Eq)]
 pub enum Attachment {
     Detached,
     /// Attached in the mode, with ATS or without.
@@ -74,7 +74,7 @@ pub struct Device {
 }
 
 /// How much the machine allows at a time. `Step` never changes it.
-#[derive(Clone, Copy, PartialEq, Eq, Debug)]
+#[derive(Clone, Copy, PartialEq, Eq)]
 pub struct Limits {
     /// The most tickets that aren't confirmed at a time.
     pub pending: u64,

@@ -50,16 +50,16 @@ fn act_at(
 {
     match event {
         Event::Read { .. } | Event::Write { .. } => {
-            let access = access_of(alloc, event)?;
+            let access = access_of(alloc, &mut kept.spare, event)?;
             requests::answer_at(kept, place, access, frame, outcome)
         }
         Event::ReadTranslated { .. } | Event::WriteTranslated { .. } => {
-            let access = access_of(alloc, event)?;
+            let access = access_of(alloc, &mut kept.spare, event)?;
             let device = &kept.devices.as_slice()[place];
             Ok(translated::may_answer(kept, device, &access, outcome))
         }
         Event::ReadThroughCache { .. } | Event::WriteThroughCache { .. } => {
-            let access = access_of(alloc, event)?;
+            let access = access_of(alloc, &mut kept.spare, event)?;
             through_cache::answer_at(kept, place, access, frame, outcome)
         }
         Event::Ask { .. } | Event::Forge { .. } => {

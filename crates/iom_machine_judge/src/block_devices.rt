@@ -123,7 +123,14 @@ fn begin(
         return Ok(false);
     }
     let bytes = access.bytes.as_slice();
-    let wanted = access_with(alloc, access.address, access.len, access.kind, bytes)?;
+    let wanted = access_with(
+        alloc,
+        &mut kept.spare,
+        access.address,
+        access.len,
+        access.kind,
+        bytes,
+    )?;
     let device = &kept.devices.as_slice()[place];
     if device.kind.has_cache() {
         through_cache::answer_at(kept, place, wanted, frame, outcome)

@@ -64,6 +64,7 @@ pub(crate) fn make(kept: &mut KeptState, place: usize, outcome: &Outcome) -> Dec
             let bytes = made.access.bytes.as_slice();
             kept.frames
                 .store(made.frame, made.access.address % PAGE_SIZE, bytes)?;
+            kept.spare.put_back(made.access.bytes);
             Ok(true)
         }
         _ => Ok(false),

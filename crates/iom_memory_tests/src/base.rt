@@ -1,6 +1,6 @@
 use crate::expect::expect;
 use bitflags::Flags;
-use iom_base::{AccessKind, Cause, Mode, Rights, Sequence, Size, Span};
+use iom_base::{AccessKind, Cause, Mode, Rights, Sequence, Size, Span, Spare};
 use std::alloc::{AllocError, Global};
 use std::fmt::Display;
 use std::process::Abort;
@@ -168,6 +168,17 @@ fn a_sequence_keeps_its_order(rt: HostRuntime) {
 #[test]
 fn a_new_sequence_is_empty(rt: HostRuntime) {
     holds(&rt, &Sequence::new(rt.alloc()), &[]);
+}
+
+#[test]
+fn spare_memory_holds_what_is_copied(rt: HostRuntime) -> Result<(), Fail> {
+    let mut spare = Spare::new(rt.alloc());
+    let first = spare.copy_of(rt.alloc(), &[1, 2, 3])?;
+    holds(&rt, &first, &[1, 2, 3]);
+    spare.put_back(first);
+    holds(&rt, &spare.copy_of(rt.alloc(), &[4])?, &[4]);
+    holds(&rt, &spare.copy_of(rt.alloc(), &[])?, &[]);
+    Ok(())
 }
 
 #[test]

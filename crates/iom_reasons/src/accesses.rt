@@ -4,7 +4,7 @@ use crate::facts::Facts;
 use crate::notes::Sent;
 use crate::pages::{Meant, say_bad_span, say_stale};
 use crate::words::{Said, Words};
-use iom_base::{Access, AccessKind, DeviceId, PAGE_SIZE, Refusal, Rights};
+use iom_base::{Access, AccessKind, DeviceId, PAGE_SIZE, Refusal, Rights, Spare};
 use iom_fabric::Translation;
 use iom_machine::{Device, Event, Outcome};
 use iom_machine_judge::accesses::access_of;
@@ -64,7 +64,7 @@ impl Facts<'_> {
             words.say("a device of its kind doesn't do that")?;
             return words.could(Refusal::WrongKind);
         }
-        let access = access_of(words.alloc, event)?;
+        let access = access_of(words.alloc, &mut Spare::new(words.alloc), event)?;
         let request = Request {
             event,
             device,

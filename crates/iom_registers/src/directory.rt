@@ -3,7 +3,7 @@ ghost use Rattle.std.specs.Prelude.{◌<◌, ◌^◌};
 use crate::fields::field;
 
 /// How a transaction finds its device context (`iommu_mode` of `ddtp`).
-#[derive(Clone, Copy, PartialEq, Eq, Debug)]
+#[derive(Clone, Copy, PartialEq, Eq)]
 pub enum DirectoryMode {
     /// No transaction is allowed.
     Off,
@@ -49,7 +49,7 @@ impl DirectoryMode {
 }
 
 /// What `ddtp` holds (IOMMU specification, chapter 5, "Device-directory-table pointer (ddtp)").
-#[derive(Clone, Copy, PartialEq, Eq, Debug)]
+#[derive(Clone, Copy, PartialEq, Eq)]
 pub struct DirectoryPointer {
     pub mode: DirectoryMode,
     /// The page of the directory's root, below 2^44.

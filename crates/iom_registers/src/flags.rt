@@ -3,7 +3,7 @@ ghost use Rattle.std.specs.Prelude.{⊤, [], ◌∷◌, codes};
 use bitflags::{Flag, Flags, bitflag_items};
 
 /// The bits of `cqcsr` (IOMMU specification, chapter 5, "Command-queue CSR (cqcsr)").
-#[derive(Clone, Copy, PartialEq, Eq, Debug)]
+#[derive(Clone, Copy, PartialEq, Eq)]
 pub struct Cqcsr(u32);
 
 bitflag_items! {
@@ -43,7 +43,7 @@ impl Flags for Cqcsr {
 }
 
 /// The bits of `fqcsr` (IOMMU specification, chapter 5, "Fault queue CSR (fqcsr)").
-#[derive(Clone, Copy, PartialEq, Eq, Debug)]
+#[derive(Clone, Copy, PartialEq, Eq)]
 pub struct Fqcsr(u32);
 
 bitflag_items! {
@@ -81,7 +81,7 @@ impl Flags for Fqcsr {
 }
 
 /// The bits of `ipsr` (IOMMU specification, chapter 5, "Interrupt pending status register (ipsr)").
-#[derive(Clone, Copy, PartialEq, Eq, Debug)]
+#[derive(Clone, Copy, PartialEq, Eq)]
 pub struct Ipsr(u32);
 
 bitflag_items! {

@@ -3,7 +3,7 @@ ghost use Rattle.std.specs.Prelude.{◌<◌, ◌^◌};
 use crate::fields::field;
 
 /// What `cqb` and `fqb` hold (IOMMU specification, chapter 5, "Command-queue base (cqb)").
-#[derive(Clone, Copy, PartialEq, Eq, Debug)]
+#[derive(Clone, Copy, PartialEq, Eq)]
 pub struct QueueBase {
     /// The field `LOG2SZ-1`, below 32: one less than the binary logarithm of how many entries there are.
     pub log2sz_less_1: u8,

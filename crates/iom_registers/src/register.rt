@@ -11,7 +11,7 @@ pub enum RegFault {
 }
 
 /// The registers, by the names that chapter 5 of the IOMMU specification gives them.
-#[derive(Clone, Copy, PartialEq, Eq, Debug)]
+#[derive(Clone, Copy, PartialEq, Eq)]
 pub enum Register {
     /// What the IOMMU can do.
     Capabilities,

@@ -18,7 +18,7 @@ const FCTL: u64 = 2;
 
 /// The register file. One field for each register that can change, named as in chapter 5 of the IOMMU
 /// specification.
-#[derive(Clone, Copy, PartialEq, Eq, Debug)]
+#[derive(Clone, Copy, PartialEq, Eq)]
 pub struct Registers {
     pub(crate) ddtp: DirectoryPointer,
     pub(crate) cqb: QueueBase,

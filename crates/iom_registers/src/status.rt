@@ -5,7 +5,7 @@ use crate::flags::{Cqcsr, Fqcsr, Ipsr};
 use bitflags::Flags;
 
 /// What `cqcsr` holds, bit by bit. `cqon` isn't here: it is `cqen`, since writes take effect at once.
-#[derive(Clone, Copy, PartialEq, Eq, Debug)]
+#[derive(Clone, Copy, PartialEq, Eq)]
 pub(crate) struct CommandStatus {
     /// The command queue is on.
     pub cqen: bool,
@@ -22,7 +22,7 @@ pub(crate) struct CommandStatus {
 }
 
 /// What `fqcsr` holds, bit by bit. `fqon` isn't here: it is `fqen`, since writes take effect at once.
-#[derive(Clone, Copy, PartialEq, Eq, Debug)]
+#[derive(Clone, Copy, PartialEq, Eq)]
 pub(crate) struct FaultStatus {
     /// The fault queue is on.
     pub fqen: bool,
@@ -35,7 +35,7 @@ pub(crate) struct FaultStatus {
 }
 
 /// What `ipsr` holds, bit by bit.
-#[derive(Clone, Copy, PartialEq, Eq, Debug)]
+#[derive(Clone, Copy, PartialEq, Eq)]
 pub(crate) struct PendingInterrupts {
     /// The command queue's interrupt is pending.
     pub cip: bool,

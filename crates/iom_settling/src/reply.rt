@@ -1,5 +1,5 @@
 /// What settling wants to know of an outcome.
-#[derive(Clone, Copy, PartialEq, Eq, Debug)]
+#[derive(Clone, Copy, PartialEq, Eq)]
 pub enum FetchReply {
     /// A fetch found a command that waits.
     Waits,

@@ -6,14 +6,14 @@ use iom_stepped_walk::Asked;
 use iom_tlb::{Space, Translation};
 
 /// An untranslated request of a device.
-#[derive(Clone, Copy, PartialEq, Eq, Debug)]
+#[derive(Clone, Copy, PartialEq, Eq)]
 pub struct Request {
     pub device: DeviceId,
     pub asked: Asked,
 }
 
 /// How a request is answered.
-#[derive(Clone, Copy, PartialEq, Eq, Debug)]
+#[derive(Clone, Copy, PartialEq, Eq)]
 pub enum Answer {
     /// No stage translates: its address is one of memory.
     AsItIs,
@@ -26,7 +26,7 @@ pub enum Answer {
 }
 
 /// What a load finds that is to be kept in a cache.
-#[derive(Clone, Copy, PartialEq, Eq, Debug)]
+#[derive(Clone, Copy, PartialEq, Eq)]
 pub enum Kept {
     Nothing,
     /// The context of the device, in the cache of contexts.

@@ -5,7 +5,7 @@ use iom_stepped_walk::{DirectoryWalk, TableWalk};
 use iom_tlb::Space;
 
 /// Where a request stands between two of its loads.
-#[derive(Clone, Copy, PartialEq, Eq, Debug)]
+#[derive(Clone, Copy, PartialEq, Eq)]
 pub enum RequestWalk {
     /// On its way through the directory to the context of its device.
     InDirectory {
@@ -26,7 +26,7 @@ pub enum RequestWalk {
 }
 
 /// How far a request has come.
-#[derive(Clone, Copy, PartialEq, Eq, Debug)]
+#[derive(Clone, Copy, PartialEq, Eq)]
 pub enum Serving {
     /// It needs a load, and stands here.
     GoesOn(RequestWalk),
@@ -35,7 +35,7 @@ pub enum Serving {
 }
 
 /// What one load makes of a request.
-#[derive(Clone, Copy, PartialEq, Eq, Debug)]
+#[derive(Clone, Copy, PartialEq, Eq)]
 pub struct Loaded {
     pub serving: Serving,
     /// What the load found that is to be kept in a cache.

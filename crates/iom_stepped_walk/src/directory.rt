@@ -12,7 +12,7 @@ use iom_phys_mem::Bytes;
 use iom_registers::{DirectoryMode, DirectoryPointer};
 
 /// Where a walk through the device directory stands between two of its loads.
-#[derive(Clone, Copy, PartialEq, Eq, Debug)]
+#[derive(Clone, Copy, PartialEq, Eq)]
 pub struct DirectoryWalk {
     /// The device whose context is looked for.
     id: DeviceId,
@@ -24,7 +24,7 @@ pub struct DirectoryWalk {
 }
 
 /// What one load makes of a walk through the directory.
-#[derive(Clone, Copy, PartialEq, Eq, Debug)]
+#[derive(Clone, Copy, PartialEq, Eq)]
 pub enum Locating {
     /// It goes on, and stands here.
     GoesOn(DirectoryWalk),

@@ -10,7 +10,7 @@ use iom_base::{AccessKind, Rights};
 use iom_stage_walk::Entry;
 
 /// What is wrong with the entry of a table that stops a walk.
-#[derive(Clone, Copy, PartialEq, Eq, Debug)]
+#[derive(Clone, Copy, PartialEq, Eq)]
 pub enum Flaw {
     /// It lies outside memory.
     OutsideMemory,

@@ -3,7 +3,7 @@ ghost use Rattle.iom_stage_walk.specs.Both.{padded};
 ghost use Rattle.iom_stepped_walk.specs.Filled.{filled_places};
 
 /// The frames from which the entries of a guest's tables were loaded so far, the root's first: four at most.
-#[derive(Clone, Copy, PartialEq, Eq, Debug)]
+#[derive(Clone, Copy, PartialEq, Eq)]
 pub struct GuestFrames {
     frames: [Option<u32>; 4],
     count: usize,

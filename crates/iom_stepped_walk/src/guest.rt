@@ -15,7 +15,7 @@ use iom_phys_mem::Bytes;
 use iom_stage_walk::{Entry, Walked, entry_at};
 
 /// What a walk in both stages is for, and the second stage.
-#[derive(Clone, Copy, PartialEq, Eq, Debug)]
+#[derive(Clone, Copy, PartialEq, Eq)]
 pub struct Both {
     pub(crate) asked: Asked,
     /// The size of the second stage's tables.
@@ -25,7 +25,7 @@ pub struct Both {
 }
 
 /// An entry of a guest's table.
-#[derive(Clone, Copy, PartialEq, Eq, Debug)]
+#[derive(Clone, Copy, PartialEq, Eq)]
 pub struct GuestEntry {
     /// The guest physical page of the table.
     pub(crate) table: Ppn,
@@ -37,7 +37,7 @@ pub struct GuestEntry {
 }
 
 /// What the guest's tables give.
-#[derive(Clone, Copy, PartialEq, Eq, Debug)]
+#[derive(Clone, Copy, PartialEq, Eq)]
 pub struct GuestPage {
     /// A guest physical page.
     pub(crate) number: u64,

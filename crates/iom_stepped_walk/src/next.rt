@@ -9,7 +9,7 @@ use crate::tables::TableWalk;
 use iom_base::{ENTRY_SIZE, PAGE_SIZE};
 
 /// A table from which a walk loads, or a page of the device directory.
-#[derive(Clone, Copy, PartialEq, Eq, Debug)]
+#[derive(Clone, Copy, PartialEq, Eq)]
 pub enum Table {
     /// A page of the directory whose entries name pages of the level below: of level 1 or 2.
     Directory { level: u32 },
@@ -24,7 +24,7 @@ pub enum Table {
 }
 
 /// The load of an entry: of 8 bytes or, where it is a context, of 32.
-#[derive(Clone, Copy, PartialEq, Eq, Debug)]
+#[derive(Clone, Copy, PartialEq, Eq)]
 pub struct EntryLoad {
     pub table: Table,
     /// Which entry of the table it is, from 0.

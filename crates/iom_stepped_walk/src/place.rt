@@ -9,7 +9,7 @@ use iom_phys_mem::Bytes;
 use iom_stage_walk::{Entry, entry_at};
 
 /// A table of a stage, from which a walk loads an entry next.
-#[derive(Clone, Copy, PartialEq, Eq, Debug)]
+#[derive(Clone, Copy, PartialEq, Eq)]
 pub struct Place {
     /// The page in which the table begins.
     pub(crate) table: Ppn,
@@ -21,7 +21,7 @@ pub struct Place {
 }
 
 /// What one load makes of a walk through the tables of a stage.
-#[derive(Clone, Copy, PartialEq, Eq, Debug)]
+#[derive(Clone, Copy, PartialEq, Eq)]
 pub(crate) enum Step {
     /// It goes on in the table that the entry names.
     Follow(Place),

@@ -15,14 +15,14 @@ use iom_phys_mem::Bytes;
 use iom_stage_walk::{WalkFault, Walked};
 
 /// The access for which a walk is made.
-#[derive(Clone, Copy, PartialEq, Eq, Debug)]
+#[derive(Clone, Copy, PartialEq, Eq)]
 pub struct Asked {
     pub address: u64,
     pub kind: AccessKind,
 }
 
 /// Where a walk of tables stands between two of its loads.
-#[derive(Clone, Copy, PartialEq, Eq, Debug)]
+#[derive(Clone, Copy, PartialEq, Eq)]
 pub enum TableWalk {
     /// In a table of a first stage alone.
     InFirstStage {
@@ -55,7 +55,7 @@ pub enum TableWalk {
 }
 
 /// What one load makes of a walk.
-#[derive(Clone, Copy, PartialEq, Eq, Debug)]
+#[derive(Clone, Copy, PartialEq, Eq)]
 pub enum Progress {
     /// It goes on, and stands here.
     GoesOn(TableWalk),

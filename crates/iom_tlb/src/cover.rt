@@ -10,7 +10,7 @@ use iom_base::TABLE_ENTRIES;
 
 /// Which translations are taken out: of the address spaces of one kind, and of these of the one with that
 /// GSCID or PSCID, or of all (None); those that came from the leaf in which that page lies, or all (None).
-#[derive(Clone, Copy, PartialEq, Eq, Debug)]
+#[derive(Clone, Copy, PartialEq, Eq)]
 pub enum Cover {
     First {
         pscid: Option<u32>,

@@ -1,6 +1,6 @@
 /// The address space of a page, by the stages that translate it. PSCID and GSCID are those of the device's
 /// context (IOMMU specification, section 2.1.3).
-#[derive(Clone, Copy, PartialEq, Eq, Hash, Debug)]
+#[derive(Clone, Copy, PartialEq, Eq, Hash)]
 pub enum Space {
     /// A host address space: the first stage translates alone. A PSCID has 20 bits.
     First { pscid: u32 },

@@ -7,7 +7,7 @@ use crate::space::Space;
 use iom_base::Rights;
 
 /// Where a page is translated to: its frame of 4 KiB, and what may be done there; and from which leaf that came.
-#[derive(Clone, Copy, PartialEq, Eq, Debug)]
+#[derive(Clone, Copy, PartialEq, Eq)]
 pub struct Translation {
     pub frame: u32,
     pub rights: Rights,

@@ -5,7 +5,7 @@ ghost use Rattle.iom_tlb_tests.specs.One.{content_of_one};
 use iom_tlb::{Cover, Space, TransCache, Translation};
 
 /// A translation, and the page that it is of.
-#[derive(Clone, Copy, PartialEq, Eq, Debug)]
+#[derive(Clone, Copy, PartialEq, Eq)]
 pub struct Kept {
     pub space: Space,
     pub page: u64,

@@ -1,19 +1,14 @@
 -- The places of outcomes, of which those that come line after line are told.
-use Rattle.std.specs.Prelude.{◌≡◌, ◌++◌, ℕ, List, All, false}
+use Rattle.std.specs.Prelude.{◌≡◌, ℕ, false}
 use Rattle.iom_base.specs.declared.cause.Cause.{Cause}
+use Rattle.iom_fabric.specs.declared.message.Translation.{Translation}
 use Rattle.iom_machine.specs.declared.outcome.BlockStep.{BlockStep}
 use Rattle.iom_machine.specs.declared.outcome.FaultRecord.{FaultRecord}
 use Rattle.iom_machine.specs.declared.outcome.Fetched.{Fetched}
-use Rattle.iom_machine.specs.declared.outcome.Outcome.{Outcome}
 use Rattle.iom_machine.specs.declared.outcome.Outcome.TheVariants as outcomes
-use Rattle.iom_script.specs.Lines.{line_of}
 use Rattle.iom_trace_lines.specs.declared.kept.KeptOutcomes.{KeptOutcomes}
 
--- the line of the outcome begins so
-abbrev pub BeginsSo : List ℕ → Outcome → Type 0
-BeginsSo start outcome = (rest : List ℕ) × (line_of outcome ≡ start ++ rest)
-
--- Each place is of its kind. Those of kinds that come less often stand beside how their lines begin.
+-- each place is of its kind
 pub record AreOfKind (kept : KeptOutcomes) : Type 0 where
   pub done : kept.done.value ≡ outcomes.Done
   pub accepted : (number : ℕ) × (kept.accepted.value ≡ outcomes.Accepted number)
@@ -28,7 +23,6 @@ pub record AreOfKind (kept : KeptOutcomes) : Type 0 where
   pub no_record : kept.no_record.value ≡ outcomes.NoRecord
   pub sent : kept.sent.value ≡ outcomes.Sent
   pub kept_there : kept.kept.value ≡ outcomes.Kept
-  pub no_message : kept.no_message.value ≡ outcomes.NoMessage
   pub fault_record : (words : FaultRecord) × (kept.«record».value ≡ outcomes.Record words)
   pub stepped : (step : BlockStep) × (kept.stepped.value ≡ outcomes.Stepped step)
-  pub seldom : All (λ place. BeginsSo place.0.now place.1) kept.seldom.items
+  pub answered : (reply : Translation) × (kept.answered.value ≡ outcomes.Answered reply)

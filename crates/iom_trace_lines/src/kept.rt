@@ -1,18 +1,18 @@
 // Outcomes that lines tell.
-ghost use Rattle.std.specs.Prelude.{◌≡◌, ◌++◌, ◌∷◌, [], All, codes, flat_map, length, IfOk, IfSome, IsTrue, OnOk};
+ghost use Rattle.std.specs.Prelude.{◌≡◌, ◌++◌, ◌∷◌, [], codes, flat_map, length, IfOk, IfSome};
 ghost use Rattle.std.specs.Fmt.{decimal};
 ghost use Rattle.iom_base.specs.Causes.{code_of};
+ghost use Rattle.iom_base.specs.Refusals.{name_of, number_of};
 ghost use Rattle.iom_script.specs.Digits.{hex_of};
-ghost use Rattle.iom_trace_lines.specs.Places.{AreOfKind, BeginsSo};
-ghost use Rattle.iom_script.specs.Lines.{fetched_text, line_of, timeout_text, word_text};
+ghost use Rattle.iom_trace_lines.specs.Places.{AreOfKind};
+ghost use Rattle.iom_script.specs.Lines.{answer_text, fetched_text, line_of, outcome_text, step_text, timeout_text, word_text};
 
 use crate::words::{behind, long_number_of, short_number_before, short_number_of};
 use arrayvec::ArrayVec;
 use iom_base::{Cause, Refusal};
 use iom_fabric::Translation;
 use iom_machine::{BlockStep, CommandName, Event, FaultRecord, Fetched, Outcome};
-use iom_script::LineBuffer;
-use iom_script::words::{after, cut, eight_bytes, is_word, number_of, put_bytes, right_of};
+use iom_script::words::{eight_bytes, is_word, put_bytes, right_of};
 use iom_virtqueue::ChainFault;
 use std::alloc::{AllocError, Global};
 
@@ -49,13 +49,11 @@ pub struct KeptOutcomes {
     no_record: Box<Outcome>,
     sent: Box<Outcome>,
     kept: Box<Outcome>,
-    no_message: Box<Outcome>,
     record: Box<Outcome>,
     stepped: Box<Outcome>,
-    /// Those that come less often, each beside how its words begin: once one came. There is room for all.
-    seldom: Vec<(&'static [u8], Outcome)>,
-    /// One of these is printed here.
-    printed: LineBuffer,
+    answered: Box<Outcome>,
+    /// One that comes seldom: such a one is put here whole.
+    seldom: Box<Outcome>,
 }
 
 /// The place, which is one of this kind, once that is told.
@@ -88,28 +86,18 @@ macro_rules! tell_behind {
     };
 }
 
-/// The outcome, where the text is what is printed of it.
-fn if_printed<'a>(
-    printed: &mut LineBuffer,
-    outcome: &'a Outcome,
-    text: &[u8],
-) -> Option<&'a Outcome>
-    ensures { IfSome result (λ reply. line_of reply.now ≡ text.now ++ 10 ∷ []) }
+/// The refusal with this number and this name.
+fn refusal_of(text: &[u8]) -> Option<Refusal>
+    ensures { IfSome result (λ why. text.now ≡ decimal (number_of why) ++ codes " " ++ name_of why) }
 {
-    printed.clear();
-    printed.append_line(outcome);
-    if is_word(behind(printed.as_slice(), text)?, b"\n") {
-        Some(outcome)
-    } else {
-        None
+    let (number, rest) = short_number_before(text)?;
+    let name = behind(rest, b" ")?;
+    for why in &REFUSALS {
+        if u32::from(why.number()) == number && is_word(name, why.name().as_bytes()) {
+            return Some(*why);
+        }
     }
-}
-
-/// The refusal with the number before the name.
-fn refusal_of(text: &[u8]) -> Option<Refusal> {
-    let (number, _) = cut(text, b' ')?;
-    let place = short_number_of(number)?.checked_sub(1)?;
-    REFUSALS.get(place as usize).copied()
+    None
 }
 
 /// The cause with the number.
@@ -178,11 +166,12 @@ static ZEROS: [u8; 4096] = [0; 4096];
 fn resize(list: &mut ArrayVec<u8, 4096>, len: usize) -> Option<()>
     ensures { IfSome result (λ done. length list.new.items ≡ len) }
 {
-    if list.len() == len {
+    if len <= list.len() {
+        list.truncate(len);
         return Some(());
     }
-    list.clear();
-    match list.try_extend_from_slice(ZEROS.get(..len)?) {
+    let more = len - list.len();
+    match list.try_extend_from_slice(ZEROS.get(..more)?) {
         Ok(()) => Some(()),
         Err(_) => None,
     }
@@ -226,19 +215,33 @@ fn tickets_of(text: &[u8]) -> Option<(u32, u32, bool)>
 }
 
 /// The answer to a question that `FRAME RIGHT` or `fault C` says.
-fn translation_of(text: &[u8]) -> Option<Translation> {
-    if let Some(code) = after(text, b"fault ") {
+#[inline(never)]
+fn translation_of(text: &[u8]) -> Option<Translation>
+    ensures { IfSome result (λ reply. answer_text reply ≡ codes "answer " ++ text.now) }
+{
+    if let Some(code) = behind(text, b"fault ") {
         return Some(Translation::Refused(cause_of(code)?));
     }
-    let (frame, rights) = cut(text, b' ')?;
-    Some(Translation::Page {
-        frame: short_number_of(frame)?,
-        rights: right_of(rights)?.rights(),
-    })
+    let (frame, rest) = short_number_before(text)?;
+    let rights = right_of(behind(rest, b" ")?)?.rights();
+    Some(Translation::Page { frame, rights })
+}
+
+/// The head and the length of a chain that `HEAD LENGTH` says.
+fn finished_of(text: &[u8]) -> Option<(u16, u32)>
+    ensures { IfSome result (λ read. text.now ≡ decimal read.0 ++ codes " " ++ decimal read.1) }
+{
+    let (head, rest) = short_number_before(text)?;
+    let len = short_number_of(behind(rest, b" ")?)?;
+    Some((u16::try_from(head).ok()?, len))
 }
 
 /// What a block device's step was that began no access, by its words.
-fn step_of(text: &[u8]) -> Option<BlockStep> {
+// Calls: written into its caller, this and the next would leave too little room there for what comes often.
+#[inline(never)]
+fn step_of(text: &[u8]) -> Option<BlockStep>
+    ensures { IfSome result (λ step. text.now ≡ step_text step) }
+{
     match text {
         b"waiting" => Some(BlockStep::Waiting),
         b"idle" => Some(BlockStep::Idle),
@@ -251,53 +254,61 @@ fn step_of(text: &[u8]) -> Option<BlockStep> {
         b"chain TooLong" => Some(BlockStep::Chain(ChainFault::TooLong)),
         b"chain Short" => Some(BlockStep::Chain(ChainFault::Short)),
         _ => {
-            let (head, len) = cut(behind(text, b"finished ")?, b' ')?;
-            Some(BlockStep::Finished {
-                head: u16::try_from(number_of(head)?).ok()?,
-                len: short_number_of(len)?,
-            })
+            let (head, len) = finished_of(behind(text, b"finished ")?)?;
+            Some(BlockStep::Finished { head, len })
         }
     }
 }
 
-/// Adds the places of outcomes that come less often, each beside how its words begin.
-fn add_seldom(places: &mut Vec<(&'static [u8], Outcome)>) -> Result<(), AllocError>
-    ensures { OnOk result (All (λ place. BeginsSo place.0.now place.1) places.old.items → All (λ place. BeginsSo place.0.now place.1) places.new.items) }
+/// The outcome that comes seldom and has a number, by its words.
+fn numbered_of(text: &[u8]) -> Option<Outcome>
+    ensures { IfSome result (λ outcome. outcome_text outcome ≡ text.now) }
 {
-    places.push((b"miss", Outcome::Miss))?;
-    let no_translation = Translation::Refused(Cause::ReadPageFault);
-    places.push((b"answer ", Outcome::Answered(no_translation)))?;
-    places.push((b"invalidated ", Outcome::Invalidated(0)))?;
-    places.push((b"closed ", Outcome::Closed(0)))?;
-    places.push((b"refused ", Outcome::Refused(Refusal::Memory)))?;
-    places.push((b"free yes", Outcome::Free(true)))?;
-    places.push((b"free no", Outcome::Free(false)))?;
-    places.push((b"busy", Outcome::Busy))?;
-    places.push((b"badspan", Outcome::BadSpan))?;
-    places.push((b"none", Outcome::NothingInFlight))?;
-    places.push((b"timed-out", Outcome::TimedOut))?;
-    places.push((b"no effect", Outcome::NoEffect))?;
-    places.push((b"lost", Outcome::Lost))?;
-    places.push((b"stale", Outcome::Stale))?;
-    places.push((b"refusal", Outcome::AnswerRefused))?;
-    places.push((b"ignored ", Outcome::NotClosed(0)))?;
-    places.push((b"ignored", Outcome::Ignored))?;
-    places.push((b"dropped", Outcome::Dropped))?;
-    places.push((b"repeated", Outcome::Repeated))?;
-    places.push((b"status ", Outcome::Status(0)))?;
-    Ok(())
+    tell_behind!(text, rest,
+        b"refused " => Some(Outcome::Refused(refusal_of(rest)?)),
+        b"invalidated " => Some(Outcome::Invalidated(long_number_of(rest)?)),
+        b"closed " => Some(Outcome::Closed(long_number_of(rest)?)),
+        b"ignored " => Some(Outcome::NotClosed(long_number_of(rest)?)),
+        b"status " => Some(Outcome::Status(u8::try_from(long_number_of(rest)?).ok()?)),
+    );
+    None
 }
 
-/// Tells the place what stands behind the start of its words. None where that doesn't say it.
-fn tell_place(place: &mut Outcome, rest: &[u8]) -> Option<()> {
-    match place {
-        Outcome::Answered(reply) => *reply = translation_of(rest)?,
-        Outcome::Invalidated(serial) | Outcome::Closed(serial) | Outcome::NotClosed(serial) =>
-            *serial = number_of(rest)?,
-        Outcome::Refused(why) => *why = refusal_of(rest)?,
-        Outcome::Status(status) => *status = u8::try_from(number_of(rest)?).ok()?,
-        _ => {}
+/// The outcome that comes seldom, by its words. `none` says of some events that there is no such message.
+fn seldom_of(event: &Event, text: &[u8]) -> Option<Outcome>
+    ensures { IfSome result (λ outcome. outcome_text outcome ≡ text.now) }
+{
+    match text {
+        b"miss" => Some(Outcome::Miss),
+        b"busy" => Some(Outcome::Busy),
+        b"badspan" => Some(Outcome::BadSpan),
+        b"none" => match event {
+            Event::Deliver { .. } | Event::Drop { .. } | Event::Repeat { .. } => {
+                Some(Outcome::NoMessage)
+            }
+            _ => Some(Outcome::NothingInFlight),
+        },
+        b"free yes" => Some(Outcome::Free(true)),
+        b"free no" => Some(Outcome::Free(false)),
+        b"timed-out" => Some(Outcome::TimedOut),
+        b"no effect" => Some(Outcome::NoEffect),
+        b"lost" => Some(Outcome::Lost),
+        b"stale" => Some(Outcome::Stale),
+        b"refusal" => Some(Outcome::AnswerRefused),
+        b"ignored" => Some(Outcome::Ignored),
+        b"dropped" => Some(Outcome::Dropped),
+        b"repeated" => Some(Outcome::Repeated),
+        _ => numbered_of(text),
     }
+}
+
+/// Puts the outcome into the place that comes seldom, by its words.
+// A call: written into its caller, an outcome would be filled with zeros for each line.
+#[inline(never)]
+fn put_seldom(place: &mut Outcome, event: &Event, text: &[u8]) -> Option<()>
+    ensures { IfSome result (λ put. outcome_text place.new ≡ text.now) }
+{
+    *place = seldom_of(event, text)?;
     Some(())
 }
 
@@ -336,11 +347,13 @@ impl KeptOutcomes {
             no_record: place(alloc, Outcome::NoRecord)?,
             sent: place(alloc, Outcome::Sent)?,
             kept: place(alloc, Outcome::Kept)?,
-            no_message: place(alloc, Outcome::NoMessage)?,
             record: place(alloc, Outcome::Record(FaultRecord { words: [0; 4] }))?,
             stepped: place(alloc, Outcome::Stepped(BlockStep::Idle))?,
-            seldom: Vec::with_capacity(alloc, 32)?,
-            printed: LineBuffer::new(alloc)?,
+            answered: place(
+                alloc,
+                Outcome::Answered(Translation::Refused(Cause::ReadPageFault)),
+            )?,
+            seldom: place(alloc, Outcome::Ignored)?,
         })
     }
 
@@ -358,38 +371,7 @@ impl KeptOutcomes {
         tell!(self.done, Outcome::Done => {})
     }
 
-    /// The outcome that the text tells of the event, of those that come less often: it begins so, and how it goes on shows
-    /// when that is printed anew. `none` says of some events that there is no such message.
-    fn told_seldom(&mut self, event: &Event, text: &[u8]) -> Option<&Outcome>
-        ensures { IfSome result (λ outcome. line_of outcome.now ≡ text.now ++ 10 ∷ []) }
-    {
-        let KeptOutcomes {
-            no_message,
-            stepped,
-            seldom,
-            printed,
-            ..
-        } = self;
-        if let Event::Deliver { .. } | Event::Drop { .. } | Event::Repeat { .. } = event {
-            tell_words!(text, b"none" => *no_message, Outcome::NoMessage,);
-        }
-        if let Some(step) = step_of(text) {
-            let reply = tell!(*stepped, Outcome::Stepped(held) => *held = step)?;
-            return if_printed(printed, reply, text);
-        }
-        if seldom.is_empty() {
-            add_seldom(seldom).ok()?;
-        }
-        for (start, place) in seldom.iter_mut() {
-            if let Some(rest) = behind(text, start) {
-                tell_place(place, rest)?;
-                return if_printed(printed, place, text);
-            }
-        }
-        None
-    }
-
-    /// The outcome that the text tells of the event. Those that come often are told by their words alone.
+    /// The outcome that the text tells of the event, by its words.
     pub(crate) fn tell(&mut self, event: &Event, text: &[u8]) -> Option<&Outcome>
         // What is read is what the text says.
         ensures { IfSome result (λ outcome. line_of outcome.now ≡ text.now ++ 10 ∷ []) }
@@ -402,21 +384,30 @@ impl KeptOutcomes {
                 b"record" => tell!(self.record, Outcome::Record(taken) => *taken = record_of(rest)?),
             );
         }
+        if let [b'c', ..] = text {
+            tell_behind!(text, rest,
+                b"confirmed -" => tell!(self.none_confirmed, Outcome::NoneConfirmed { timed_out: is } => *is = is_given_up(rest)?),
+                b"confirmed " => tell!(self.confirmed, Outcome::Confirmed { first, last, timed_out: is } =>
+                    (*first, *last, *is) = tickets_of(rest)?),
+            );
+        }
         tell_behind!(text, rest,
             b"ticket " => tell!(self.ticket, Outcome::Ticket(ticket) => *ticket = short_number_of(rest)?),
             b"fault " => tell!(self.fault, Outcome::Fault(cause) => *cause = cause_of(rest)?),
-            b"confirmed -" => tell!(self.none_confirmed, Outcome::NoneConfirmed { timed_out: is } => *is = is_given_up(rest)?),
-            b"confirmed " => tell!(self.confirmed, Outcome::Confirmed { first, last, timed_out: is } =>
-                (*first, *last, *is) = tickets_of(rest)?),
-        );
-        tell_words!(text,
-            b"no record" => self.no_record, Outcome::NoRecord,
-            b"sent" => self.sent, Outcome::Sent,
-            b"kept" => self.kept, Outcome::Kept,
+            b"answer " => tell!(self.answered, Outcome::Answered(reply) => *reply = translation_of(rest)?),
         );
         if let Some(what) = fetched_of(event, text) {
             return tell!(self.fetched, Outcome::Fetched(fetched) => *fetched = what);
         }
-        self.told_seldom(event, text)
+        tell_words!(text,
+            b"sent" => self.sent, Outcome::Sent,
+            b"kept" => self.kept, Outcome::Kept,
+            b"no record" => self.no_record, Outcome::NoRecord,
+        );
+        if let Some(step) = step_of(text) {
+            return tell!(self.stepped, Outcome::Stepped(held) => *held = step);
+        }
+        put_seldom(&mut self.seldom, event, text)?;
+        Some(&self.seldom)
     }
 }

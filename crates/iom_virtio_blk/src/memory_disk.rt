@@ -6,7 +6,7 @@ use crate::disk::{Disk, DiskFault, SECTOR_SIZE};
 use std::alloc::{AllocError, Global};
 
 /// Which of a disk's calls fails.
-#[derive(Clone, Copy, PartialEq, Eq, Debug)]
+#[derive(Clone, Copy, PartialEq, Eq)]
 pub(crate) enum Failing {
     /// None does.
     Never,

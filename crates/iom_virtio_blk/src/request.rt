@@ -2,7 +2,7 @@ ghost use Rattle.std.specs.Prelude.{◌≡◌};
 ghost use Rattle.iom_virtio_blk.specs.Requests.{fits, plan_of, status_byte};
 
 /// How a request ended (virtio 1.2, section 5.2.6).
-#[derive(Clone, Copy, PartialEq, Eq, Debug)]
+#[derive(Clone, Copy, PartialEq, Eq)]
 pub enum RequestStatus {
     Ok,
     IoError,
@@ -23,7 +23,7 @@ impl RequestStatus {
 }
 
 /// What is done with a request.
-#[derive(Clone, Copy, PartialEq, Eq, Debug)]
+#[derive(Clone, Copy, PartialEq, Eq)]
 pub(crate) enum Plan {
     /// Sectors of the disk are written to memory.
     ReadDisk,

@@ -9,7 +9,7 @@ use crate::want::WantedAccess;
 use iom_virtqueue::{Buffers, Piece, Want, piece_of};
 
 /// What is read or written next for a request (virtio 1.2, section 5.2.6).
-#[derive(Clone, Copy, PartialEq, Eq, Debug)]
+#[derive(Clone, Copy, PartialEq, Eq)]
 pub(crate) enum Job {
     /// The header is read.
     Header,
@@ -22,7 +22,7 @@ pub(crate) enum Job {
 }
 
 /// How far a request is served.
-#[derive(Clone, Copy, PartialEq, Eq, Debug)]
+#[derive(Clone, Copy, PartialEq, Eq)]
 pub(crate) struct Serving {
     pub(crate) job: Job,
     /// The first sector of the request.

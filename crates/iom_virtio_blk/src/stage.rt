@@ -2,7 +2,7 @@ ghost use Rattle.std.specs.Prelude.{◌≡◌};
 ghost use Rattle.iom_virtio_blk.specs.Stages.{device_status};
 
 /// How far the driver initialized the device (virtio 1.2, sections 2.1 and 3.1).
-#[derive(Clone, Copy, PartialEq, Eq, Debug)]
+#[derive(Clone, Copy, PartialEq, Eq)]
 pub enum Stage {
     /// Reset.
     Reset,

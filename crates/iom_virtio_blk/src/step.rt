@@ -19,7 +19,7 @@ pub enum Step {
 }
 
 /// What became of the access that a step wanted.
-#[derive(Clone, Copy, PartialEq, Eq, Debug)]
+#[derive(Clone, Copy, PartialEq, Eq)]
 pub enum Reply {
     /// It is the device's access of this number, and will be made.
     Accepted(u64),
@@ -32,7 +32,7 @@ pub enum Reply {
 }
 
 /// A call of the disk, by the number of its sector.
-#[derive(Clone, Copy, PartialEq, Eq, Debug)]
+#[derive(Clone, Copy, PartialEq, Eq)]
 pub(crate) enum Call {
     Read(u64),
     Write(u64),

@@ -4,7 +4,7 @@ ghost use Rattle.iom_virtqueue.specs.Descriptors.{descriptor_of, has_next, is_wr
 use crate::numbers::{le16, le32, le64};
 
 /// A buffer of the driver (virtio 1.2, section 2.7.5).
-#[derive(Clone, Copy, PartialEq, Eq, Debug, Default)]
+#[derive(Clone, Copy, PartialEq, Eq, Default)]
 pub struct Descriptor {
     pub address: u64,
     pub len: u32,
@@ -13,7 +13,7 @@ pub struct Descriptor {
 }
 
 /// A descriptor of a chain, and where it stands in the descriptor table.
-#[derive(Clone, Copy, PartialEq, Eq, Debug, Default)]
+#[derive(Clone, Copy, PartialEq, Eq, Default)]
 pub struct Link {
     pub index: u16,
     pub descriptor: Descriptor,

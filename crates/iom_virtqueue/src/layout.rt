@@ -6,7 +6,7 @@ pub const MAX_QUEUE_SIZE: u64 = 256;
 
 /// Where the three parts of a split virtqueue lie, and how many descriptors and ring entries it has
 /// (virtio 1.2, section 2.7). Addresses are those that the device uses, and wrap modulo 2^64.
-#[derive(Clone, Copy, PartialEq, Eq, Debug)]
+#[derive(Clone, Copy, PartialEq, Eq)]
 pub struct Layout {
     pub size: u16,
     pub descriptor_table: u64,

@@ -1,5 +1,5 @@
 /// What is to be read or written next, in the order of one request (virtio 1.2, sections 2.7.6 to 2.7.8).
-#[derive(Clone, Copy, PartialEq, Eq, Debug)]
+#[derive(Clone, Copy, PartialEq, Eq)]
 pub enum Phase {
     /// The driver's `idx` of the available ring.
     AvailableIndex,

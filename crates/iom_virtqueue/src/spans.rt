@@ -5,7 +5,7 @@ ghost use Rattle.iom_virtqueue.specs.Spans.{rest_of, piece_of};
 use crate::descriptor::Link;
 
 /// So many bytes from an address on.
-#[derive(Clone, Copy, PartialEq, Eq, Debug)]
+#[derive(Clone, Copy, PartialEq, Eq)]
 pub struct Piece {
     pub address: u64,
     pub len: u32,

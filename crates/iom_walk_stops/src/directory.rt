@@ -13,7 +13,7 @@ use iom_registers::DirectoryPointer;
 use iom_stepped_walk::{DirectoryWalk, EntryLoad, Locating, MAX_DIRECTORY_LOADS};
 
 /// Where a walk through the directory ends.
-#[derive(Clone, Copy, PartialEq, Eq, Debug)]
+#[derive(Clone, Copy, PartialEq, Eq)]
 pub enum DirectoryEnd {
     /// It finds a context.
     Finds(Context),

@@ -8,7 +8,7 @@ use iom_device_dir::{Context, FirstStage, GuestRoot, SecondStage};
 use iom_stepped_walk::{Progress, TableWalk};
 
 /// The stages that translate an address: one at least.
-#[derive(Clone, Copy, PartialEq, Eq, Debug)]
+#[derive(Clone, Copy, PartialEq, Eq)]
 pub enum Stages {
     /// The first alone.
     First {

@@ -15,7 +15,7 @@ use iom_stage_walk::{Entry, Pte, WalkFault, Walked};
 use iom_stepped_walk::{EntryLoad, Flaw, MAX_TABLE_LOADS, Progress, TableWalk};
 
 /// Where a walk of page tables ends.
-#[derive(Clone, Copy, PartialEq, Eq, Debug)]
+#[derive(Clone, Copy, PartialEq, Eq)]
 pub enum TablesEnd {
     /// It reaches a page.
     Reaches(Walked),

@@ -26,7 +26,7 @@ pub struct Survey {
 
 /// A frame that hardware reads, and that somebody may write: a device that isn't trusted, or the IOMMU, which stores fault
 /// records and the words of fences.
-#[derive(Clone, Copy, PartialEq, Eq, Debug)]
+#[derive(Clone, Copy, PartialEq, Eq)]
 pub struct Conflict {
     /// None where it is the IOMMU.
     pub device: Option<DeviceId>,

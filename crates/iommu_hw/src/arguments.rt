@@ -1,7 +1,7 @@
 // What the command line says.
 
 /// How the program is to run.
-#[derive(Clone, Copy, Debug)]
+#[derive(Clone, Copy)]
 pub(crate) struct Arguments<'a> {
     /// Whether each line is to be answered at once.
     pub(crate) live: bool,

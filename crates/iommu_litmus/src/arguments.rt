@@ -7,7 +7,7 @@ use std::alloc::{AllocError, Global};
 const MOST_PLACES: usize = 200_000;
 
 /// How tests are answered.
-#[derive(Clone, Copy, Debug)]
+#[derive(Clone, Copy)]
 pub(crate) struct Choice<'a> {
     /// The places that a search may find, from 1.
     pub(crate) most: usize,

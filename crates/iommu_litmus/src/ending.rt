@@ -1,7 +1,7 @@
 // How it ends.
 
 /// How tests were answered, all together: what is said later here comes first.
-#[derive(Clone, Copy, PartialEq, Eq, Debug)]
+#[derive(Clone, Copy, PartialEq, Eq)]
 pub(crate) enum Ending {
     /// Each question is answered as its test says.
     Ok,

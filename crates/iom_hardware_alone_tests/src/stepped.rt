@@ -1,0 +1,452 @@
+// A board whose walks make one load an event, of which a test sees no parts. A test is a table of acts, which one function takes.
+ghost use Rattle.std.specs.Prelude.{◌+◌, ◌<◌, ◌^◌};
+ghost use Rattle.iom_board.specs.BoardParts.{board_parts};
+ghost use Rattle.iom_board.specs.Invariant.{BoardInvariant};
+ghost use Rattle.iom_board.specs.InvariantIsFact.{board_invariant_prop};
+ghost use Rattle.iom_stepped_board.specs.Beside.{AreBeside};
+ghost use Rattle.iom_stepped_board.specs.BesideIsFact.{are_beside_prop};
+
+use crate::expect::expect;
+use crate::setup::{
+    BASE_VALUE, CONTEXT, CQB, CQCSR, CQT, DDTP, DEVICE, FENCE, FRAMES, INVALIDATE, LEAF, ONE_LEVEL,
+    RING, VMA, WORDS, did, width_at,
+};
+use iom_ats_cache::Taken;
+use iom_base::{AccessKind, Cause, NewDevice, Refusal, Rights};
+use iom_board::laws::software_keeps_invariant;
+use iom_board::{CacheReply, Delivered, NoPlace, Sender};
+use iom_fabric::{PageNumber, Repeat, Translation};
+use iom_iommu::{Begun, Fetched, Load, Reply};
+use iom_registers::Mmio;
+use iom_stepped_board::SteppedBoard;
+use iom_stepped_board::laws::stays_beside;
+use std::alloc::Global;
+use std::process::Abort;
+
+/// What is done, and what comes of it.
+#[derive(Clone, Copy)]
+enum Act<'a> {
+    /// Software writes a register, or the processor stores a word, or finds no place for one.
+    Write(u64, u64),
+    Store(u64, u64),
+    NoStore(u64, NoPlace),
+    /// The command with these two words, in this entry of the queue, is done; or waits, and is given up.
+    Does(u32, (u64, u64)),
+    Waits(u32, (u64, u64)),
+    Timeout(bool),
+    Plug(u32, NewDevice, Result<(), Refusal>),
+    Reset(u32, Result<(), Refusal>),
+    Medium(u32, u64, Result<(), Refusal>),
+    RemoveDisk(u32, Result<(), Refusal>),
+    /// A device asks for the translation of a page, or says that a request is completed; what becomes of messages.
+    Ask(u32, u64, Result<bool, Refusal>),
+    Forge(u32, u64, Result<bool, Refusal>),
+    Deliver(u64, Delivered),
+    Drop(u64, bool),
+    Repeat(u64, Repeat),
+    /// The device asks for a read of one byte, or for a write of these; and so by a translated request, or through its cache.
+    Begin(Sender, u32, u64, &'a [u8], Result<Begun, Refusal>),
+    Translated(u32, u64, &'a [u8], Result<Reply, Refusal>),
+    Through(Sender, u32, u64, &'a [u8], Result<CacheReply, Refusal>),
+    /// So many reads of one byte, each accepted at once.
+    Each(u32, u64),
+    Load(u32, Result<Load, Refusal>),
+    /// The oldest access of the device is made, in this frame.
+    MadeIn(u32, u32),
+    MakesNone(u32, Result<(), Refusal>),
+}
+
+#[derive(Drop)]
+struct Machine {
+    hardware: SteppedBoard,
+    ghost invariants: { BoardInvariant (board_parts hardware.board) hardware.board.events } by { board_invariant_prop (board_parts hardware.board) hardware.board.events },
+    ghost beside: { AreBeside (board_parts hardware.board) hardware.walks } by { are_beside_prop (board_parts hardware.board) hardware.walks },
+}
+
+impl Machine {
+    /// At power-on, with the disks 3 and 4. Boxed: of what a test owns in place each later proof would carry every part.
+    fn at_power_on(rt: &impl Abort, alloc: Global) -> Box<Machine> {
+        let hardware = SteppedBoard::new(alloc, FRAMES, &[3, 4]).expect(rt, "memory for it");
+        Box::new(alloc, Machine { hardware }).expect(rt, "memory for the machine")
+    }
+
+    /// One more event can be counted.
+    fn expect_room(&self, rt: &impl Abort)
+        ensures { self.now.hardware.board.events + 1 < 2 ^ 64 }
+    {
+        let has_room = self.hardware.board.events < u64::MAX;
+        assert!(rt; has_room);
+    }
+
+    fn write(&mut self, rt: &impl Abort, offset: u64, value: u64) {
+        software_keeps_invariant();
+        stays_beside();
+        let width = width_at(offset);
+        let written = self.hardware.board.iommu.write(offset, width, value);
+        expect(rt, written.is_ok());
+    }
+
+    fn stores(&mut self, rt: &impl Abort, address: u64, word: u64, expected: Result<(), NoPlace>) {
+        self.expect_room(rt);
+        let stored = self.hardware.store(address, &word.to_le_bytes());
+        expect(rt, stored == expected);
+    }
+
+    fn fetches(
+        &mut self,
+        rt: &impl Abort,
+        index: u32,
+        (first, second): (u64, u64),
+        expected: Fetched,
+    ) {
+        let place = RING + 16 * u64::from(index);
+        self.stores(rt, place, first, Ok(()));
+        self.stores(rt, place + 8, second, Ok(()));
+        self.write(rt, CQT, u64::from(index).wrapping_add(1));
+        self.expect_room(rt);
+        let fetched = self.hardware.fetch();
+        expect(rt, fetched == expected);
+    }
+
+    fn times_out(&mut self, rt: &impl Abort, expected: bool) {
+        self.expect_room(rt);
+        let has_effect = self.hardware.timeout();
+        expect(rt, has_effect == expected);
+    }
+
+    fn plugs(&mut self, rt: &impl Abort, id: u32, what: NewDevice, expected: Result<(), Refusal>) {
+        self.expect_room(rt);
+        let plugged = self.hardware.plug(id, what);
+        expect(rt, plugged == expected);
+    }
+
+    fn resets(&mut self, rt: &impl Abort, id: u32, expected: Result<(), Refusal>) {
+        self.expect_room(rt);
+        let reset = self.hardware.reset(id);
+        expect(rt, reset == expected);
+    }
+
+    fn takes_disk(&mut self, rt: &impl Abort, id: u32, disk: u64, expected: Result<(), Refusal>) {
+        self.expect_room(rt);
+        let taken = self.hardware.medium(id, disk);
+        expect(rt, taken == expected);
+    }
+
+    fn loses_disk(&mut self, rt: &impl Abort, id: u32, expected: Result<(), Refusal>) {
+        self.expect_room(rt);
+        let lost = self.hardware.remove_disk(id);
+        expect(rt, lost == expected);
+    }
+
+    fn questions(&mut self, rt: &impl Abort, id: u32, page: u64, expected: Result<bool, Refusal>) {
+        self.expect_room(rt);
+        let page = PageNumber::new(page).expect(rt, "52 bits");
+        let sent = self.hardware.ask(id, page);
+        expect(rt, sent == expected);
+    }
+
+    fn forges(&mut self, rt: &impl Abort, id: u32, serial: u64, expected: Result<bool, Refusal>) {
+        self.expect_room(rt);
+        let sent = self.hardware.forge(id, serial);
+        expect(rt, sent == expected);
+    }
+
+    fn delivers(&mut self, rt: &impl Abort, place: u64, expected: Delivered) {
+        self.expect_room(rt);
+        let delivered = self.hardware.deliver(place);
+        expect(rt, delivered == expected);
+    }
+
+    fn drops(&mut self, rt: &impl Abort, place: u64, expected: bool) {
+        self.expect_room(rt);
+        let found = self.hardware.drop_message(place);
+        expect(rt, found == expected);
+    }
+
+    fn repeats(&mut self, rt: &impl Abort, place: u64, expected: Repeat) {
+        self.expect_room(rt);
+        let repeated = self.hardware.repeat(place);
+        expect(rt, repeated == expected);
+    }
+
+    fn begins(
+        &mut self,
+        rt: &impl Abort,
+        sender: Sender,
+        id: u32,
+        address: u64,
+        bytes: &[u8],
+    ) -> Result<Begun, Refusal> {
+        self.expect_room(rt);
+        let (len, kind) = if bytes.is_empty() {
+            (1, AccessKind::Read)
+        } else {
+            (bytes.len() as u64, AccessKind::Write)
+        };
+        self.hardware.begin(sender, id, address, len, kind, bytes)
+    }
+
+    fn translated(
+        &mut self,
+        rt: &impl Abort,
+        id: u32,
+        address: u64,
+        bytes: &[u8],
+    ) -> Result<Reply, Refusal> {
+        self.expect_room(rt);
+        let (len, kind) = if bytes.is_empty() {
+            (1, AccessKind::Read)
+        } else {
+            (bytes.len() as u64, AccessKind::Write)
+        };
+        self.hardware.translated(id, address, len, kind, bytes)
+    }
+
+    fn through(
+        &mut self,
+        rt: &impl Abort,
+        sender: Sender,
+        id: u32,
+        address: u64,
+        bytes: &[u8],
+    ) -> Result<CacheReply, Refusal> {
+        self.expect_room(rt);
+        let (len, kind) = if bytes.is_empty() {
+            (1, AccessKind::Read)
+        } else {
+            (bytes.len() as u64, AccessKind::Write)
+        };
+        self.hardware
+            .through_cache(sender, id, address, len, kind, bytes)
+    }
+
+    fn begins_each(&mut self, rt: &impl Abort, times: u32, address: u64) {
+        for _ in 0..times {
+            let begun = self.begins(rt, Sender::Own, DEVICE, address, b"");
+            expect(rt, matches!(begun, Ok(Begun::Answered(Reply::Accepted(_)))));
+        }
+    }
+
+    fn loads(&mut self, rt: &impl Abort, id: u32, expected: Result<Load, Refusal>) {
+        self.expect_room(rt);
+        let loaded = self.hardware.load(id);
+        expect(rt, loaded == expected);
+    }
+
+    fn makes(&mut self, rt: &impl Abort, id: u32, frame: u32) {
+        self.expect_room(rt);
+        let committed = self.hardware.commit(id);
+        let made = committed.expect(rt, "a device").expect(rt, "an access");
+        expect(rt, made.frame == frame);
+    }
+
+    fn makes_none(&mut self, rt: &impl Abort, id: u32, expected: Result<(), Refusal>) {
+        self.expect_room(rt);
+        let committed = self.hardware.commit(id);
+        expect(rt, committed == expected.map(|()| None));
+    }
+
+    fn takes(&mut self, rt: &impl Abort, act: Act) {
+        match act {
+            Act::Write(offset, value) => self.write(rt, offset, value),
+            Act::Store(address, word) => self.stores(rt, address, word, Ok(())),
+            Act::NoStore(address, why) => self.stores(rt, address, 0, Err(why)),
+            Act::Does(index, words) => self.fetches(rt, index, words, did(rt, words)),
+            Act::Waits(index, words) => self.fetches(rt, index, words, Fetched::Waiting),
+            Act::Timeout(expected) => self.times_out(rt, expected),
+            Act::Plug(id, what, expected) => self.plugs(rt, id, what, expected),
+            Act::Reset(id, expected) => self.resets(rt, id, expected),
+            Act::Medium(id, disk, expected) => self.takes_disk(rt, id, disk, expected),
+            Act::RemoveDisk(id, expected) => self.loses_disk(rt, id, expected),
+            _ => self.sends(rt, act),
+        }
+    }
+
+    /// Takes an act of a message, or of an access that was asked for.
+    fn sends(&mut self, rt: &impl Abort, act: Act) {
+        match act {
+            Act::Ask(id, page, expected) => self.questions(rt, id, page, expected),
+            Act::Forge(id, serial, expected) => self.forges(rt, id, serial, expected),
+            Act::Deliver(place, expected) => self.delivers(rt, place, expected),
+            Act::Drop(place, expected) => self.drops(rt, place, expected),
+            Act::Repeat(place, expected) => self.repeats(rt, place, expected),
+            Act::Each(times, address) => self.begins_each(rt, times, address),
+            Act::Load(id, expected) => self.loads(rt, id, expected),
+            Act::MadeIn(id, frame) => self.makes(rt, id, frame),
+            Act::MakesNone(id, expected) => self.makes_none(rt, id, expected),
+            _ => self.asks(rt, act),
+        }
+    }
+
+    /// Takes an act by which a device asks for an access.
+    fn asks(&mut self, rt: &impl Abort, act: Act) {
+        match act {
+            Act::Begin(sender, id, address, bytes, expected) => {
+                expect(rt, self.begins(rt, sender, id, address, bytes) == expected);
+            }
+            Act::Translated(id, address, bytes, expected) => {
+                expect(rt, self.translated(rt, id, address, bytes) == expected);
+            }
+            Act::Through(sender, id, address, bytes, expected) => {
+                expect(rt, self.through(rt, sender, id, address, bytes) == expected);
+            }
+            _ => expect(rt, false),
+        }
+    }
+}
+
+/// With a directory and tables in memory, and the command queue on, the acts are taken, one after another.
+fn run(rt: &impl Abort, alloc: Global, acts: &[Act]) {
+    let mut machine = Machine::at_power_on(rt, alloc);
+    for (address, word) in WORDS.iter() {
+        machine.stores(rt, *address, *word, Ok(()));
+    }
+    machine.write(rt, DDTP, ONE_LEVEL);
+    machine.write(rt, CQB, BASE_VALUE);
+    machine.write(rt, CQCSR, 3);
+    for act in acts.iter() {
+        machine.takes(rt, *act);
+    }
+}
+
+const WALKS: Result<Begun, Refusal> = Ok(Begun::Walking);
+
+const ACCEPTED: Result<Load, Refusal> = Ok(Load::Ended(Reply::Accepted(1)));
+
+const LOADED: Result<Load, Refusal> = Ok(Load::Loaded);
+
+/// A page changes under a walk: what the last load finds is what counts. A second request is kept out, and the next one of the page needs
+/// no load.
+static CHANGED: [Act; 18] = [
+    Act::Load(DEVICE, Err(Refusal::NoSuchDevice)),
+    Act::Plug(DEVICE, NewDevice::Raw, Ok(())),
+    Act::Plug(DEVICE, NewDevice::Raw, Err(Refusal::AlreadyPlugged)),
+    Act::Load(DEVICE, Ok(Load::Nothing)),
+    Act::Begin(Sender::Own, DEVICE, 0x3010, b"\x11", WALKS),
+    Act::Begin(Sender::Own, DEVICE, 0x3010, b"", Ok(Begun::Occupied)),
+    Act::Load(DEVICE, LOADED),
+    Act::Load(DEVICE, LOADED),
+    Act::Load(DEVICE, LOADED),
+    Act::MakesNone(DEVICE, Ok(())),
+    Act::Store(LEAF, 0x84d7),
+    Act::NoStore(0x4_0000, NoPlace::OutsideMemory),
+    Act::Load(DEVICE, ACCEPTED),
+    Act::MadeIn(DEVICE, 33),
+    Act::Begin(
+        Sender::Own,
+        DEVICE,
+        0x3fff,
+        b"\x11\x22",
+        Ok(Begun::Answered(Reply::BadSpan)),
+    ),
+    Act::Begin(
+        Sender::Own,
+        DEVICE,
+        0x3010,
+        b"",
+        Ok(Begun::Answered(Reply::Accepted(2))),
+    ),
+    Act::MadeIn(DEVICE, 33),
+    Act::Begin(Sender::Step, DEVICE, 0x3010, b"", Err(Refusal::WrongKind)),
+];
+
+/// A fence doesn't wait for a walk, and an invalidation begins it anew, at the directory. A reset gives it up.
+static ANEW: [Act; 15] = [
+    Act::Plug(DEVICE, NewDevice::Raw, Ok(())),
+    Act::Begin(Sender::Own, DEVICE, 0x3010, b"", WALKS),
+    Act::Load(DEVICE, LOADED),
+    Act::Load(DEVICE, LOADED),
+    Act::Does(0, FENCE),
+    Act::Load(DEVICE, LOADED),
+    Act::Does(1, VMA),
+    Act::Load(DEVICE, LOADED),
+    Act::Load(DEVICE, LOADED),
+    Act::Load(DEVICE, LOADED),
+    Act::Load(DEVICE, ACCEPTED),
+    Act::Begin(Sender::Own, DEVICE, 0x4000, b"", WALKS),
+    Act::Reset(DEVICE, Ok(())),
+    Act::Load(DEVICE, Ok(Load::Nothing)),
+    Act::Reset(6, Err(Refusal::NoSuchDevice)),
+];
+
+/// A walk is one of the eight, for every request of its device, and has its place when it ends.
+static EIGHT: [Act; 15] = [
+    Act::Store(CONTEXT, 3),
+    Act::Plug(DEVICE, NewDevice::Raw, Ok(())),
+    Act::Begin(Sender::Own, DEVICE, 0x3010, b"", WALKS),
+    Act::Load(DEVICE, LOADED),
+    Act::Load(DEVICE, LOADED),
+    Act::Load(DEVICE, LOADED),
+    Act::Load(DEVICE, ACCEPTED),
+    Act::Translated(DEVICE, 0x2_0010, b"", Ok(Reply::Accepted(2))),
+    Act::Each(5, 0x3010),
+    Act::Begin(Sender::Own, DEVICE, 0x4000, b"", WALKS),
+    Act::Begin(
+        Sender::Own,
+        DEVICE,
+        0x3010,
+        b"",
+        Ok(Begun::Answered(Reply::Busy)),
+    ),
+    Act::Translated(DEVICE, 0x2_0010, b"", Ok(Reply::Busy)),
+    Act::Load(DEVICE, LOADED),
+    Act::Load(DEVICE, LOADED),
+    Act::Load(DEVICE, Ok(Load::Ended(Reply::Fault(Cause::ReadPageFault)))),
+];
+
+/// Messages go on while a walk is under way, which stays.
+static ASKED: [Act; 14] = [
+    Act::Store(CONTEXT, 3),
+    Act::Plug(DEVICE, NewDevice::Ats, Ok(())),
+    Act::Through(Sender::Own, DEVICE, 0x3010, b"", Ok(CacheReply::Miss)),
+    Act::Ask(DEVICE, 3, Ok(true)),
+    Act::Repeat(0, Repeat::Repeated),
+    Act::Drop(1, true),
+    Act::Deliver(
+        0,
+        Delivered::Answered(Translation::Page {
+            frame: 32,
+            rights: Rights::RW,
+        }),
+    ),
+    Act::Deliver(0, Delivered::Taken(Taken::Kept)),
+    Act::Through(
+        Sender::Own,
+        DEVICE,
+        0x3010,
+        b"\xcc",
+        Ok(CacheReply::Replied(Reply::Accepted(1))),
+    ),
+    Act::MadeIn(DEVICE, 32),
+    Act::Does(0, INVALIDATE),
+    Act::Waits(1, FENCE),
+    Act::Timeout(true),
+    Act::Translated(DEVICE, 0x3010, b"", Err(Refusal::WrongKind)),
+];
+
+/// What a raw device sends, and disks: a walk of a device that loses its disk is given up.
+static OTHERS: [Act; 14] = [
+    Act::Plug(DEVICE, NewDevice::Raw, Ok(())),
+    Act::Begin(Sender::Own, DEVICE, 0x3010, b"", WALKS),
+    Act::Load(DEVICE, LOADED),
+    Act::Forge(DEVICE, 7, Ok(true)),
+    Act::Deliver(0, Delivered::NotClosed(7)),
+    Act::Load(DEVICE, LOADED),
+    Act::RemoveDisk(DEVICE, Ok(())),
+    Act::Load(DEVICE, Ok(Load::Nothing)),
+    Act::Plug(6, NewDevice::Block { disk: 3 }, Ok(())),
+    Act::Medium(6, 4, Err(Refusal::BadMedium)),
+    Act::RemoveDisk(6, Ok(())),
+    Act::Medium(6, 4, Ok(())),
+    Act::Through(Sender::Own, 6, 0x3010, b"", Err(Refusal::WrongKind)),
+    Act::MakesNone(7, Err(Refusal::NoSuchDevice)),
+];
+
+#[test]
+fn a_walk_makes_one_load_an_event(rt: HostRuntime) {
+    run(&rt, rt.alloc(), &CHANGED);
+    run(&rt, rt.alloc(), &ANEW);
+    run(&rt, rt.alloc(), &EIGHT);
+    run(&rt, rt.alloc(), &ASKED);
+    run(&rt, rt.alloc(), &OTHERS);
+}

@@ -1,0 +1,3 @@
+pub mod BesideLemmas
+pub mod SoundBeside
+pub mod SoundEvents

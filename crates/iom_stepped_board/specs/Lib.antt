@@ -1,0 +1,4 @@
+pub mod Beside
+pub mod BesideIsFact
+pub mod Requests
+pub mod ThroughCache
