@@ -18,19 +18,17 @@ use std::fs;
 use std::io::{self, IsTerminal, Read, Write};
 use std::process::ExitCode;
 
-const LAWFUL: u8 = 0;
-
-const NOT_LAWFUL: u8 = 1;
-
-const NOT_IN_GRAMMAR: u8 = 2;
-
-const BAD_COMMAND_LINE: u8 = 3;
-
-const FAILED: u8 = 4;
-
-const NOT_CERTIFIED: u8 = 5;
-
-const BEYOND_LIMITS: u8 = 6;
+/// The exit statuses, from 0 on.
+#[derive(Clone, Copy)]
+enum Status {
+    Lawful,
+    NotLawful,
+    NotInGrammar,
+    BadCommandLine,
+    Failed,
+    NotCertified,
+    BeyondLimits,
+}
 
 /// So many unlawful lines are left out at most.
 const MOST_LEFT_OUT: usize = 1000;
@@ -51,22 +49,22 @@ reason.
 ";
 
 /// Tells on standard error what goes wrong with what has this name.
-fn complain(rt: &HostRuntime, name: &str, text: &str, status: u8) -> u8 {
+fn complain(rt: &HostRuntime, name: &str, text: &str, status: Status) -> Status {
     iom_programs::complain(rt, "iommu-judge", name, text);
     status
 }
 
 /// Prints what is found, and gives the exit status. A line that isn't in the grammar is told on standard error.
-fn tell(rt: &HostRuntime, name: &str, verdict: &Verdict) -> io::Result<u8> {
+fn tell(rt: &HostRuntime, name: &str, verdict: &Verdict) -> io::Result<Status> {
     let status = match verdict {
-        Verdict::Lawful => LAWFUL,
+        Verdict::Lawful => Status::Lawful,
         Verdict::Stops { finding, .. } => match finding {
-            Finding::Uncertified(_) => NOT_CERTIFIED,
-            Finding::Beyond(_) => BEYOND_LIMITS,
-            Finding::Unlawful(_) => NOT_LAWFUL,
+            Finding::Uncertified(_) => Status::NotCertified,
+            Finding::Beyond(_) => Status::BeyondLimits,
+            Finding::Unlawful(_) => Status::NotLawful,
             Finding::Bad(_) => {
                 eprintln!(rt; "iommu-judge: {name}: {verdict}")?;
-                return Ok(NOT_IN_GRAMMAR);
+                return Ok(Status::NotInGrammar);
             }
         },
     };
@@ -75,14 +73,14 @@ fn tell(rt: &HostRuntime, name: &str, verdict: &Verdict) -> io::Result<u8> {
 }
 
 /// Prints how many lines were left out, behind which no other was found that can't have come.
-fn tell_count(rt: &HostRuntime, count: usize) -> io::Result<u8> {
+fn tell_count(rt: &HostRuntime, count: usize) -> io::Result<Status> {
     let lines = if count == 1 { "line is" } else { "lines are" };
     println!(rt; "{count} {lines} unlawful")?;
-    Ok(NOT_LAWFUL)
+    Ok(Status::NotLawful)
 }
 
 /// Prints all that is found, one after another, and gives the exit status.
-fn tell_all(rt: &HostRuntime, name: &str, found: &Findings) -> io::Result<u8> {
+fn tell_all(rt: &HostRuntime, name: &str, found: &Findings) -> io::Result<Status> {
     let mut status = tell(rt, name, &found.first)?;
     for (index, verdict) in found.others.iter().enumerate() {
         status = match verdict {
@@ -93,45 +91,44 @@ fn tell_all(rt: &HostRuntime, name: &str, found: &Findings) -> io::Result<u8> {
     Ok(status)
 }
 
-/// Judges what the opened reader has, where so many unlawful lines are left out at most, and tells what is found of what has this
-/// name, or why it can't be read. It fails where standard output can't be written.
+/// Judges what the opened reader has, and tells what is found of what has this name. It fails where standard output can't be written.
 fn judge<R: Read + Drop>(
     rt: &HostRuntime,
     name: &str,
     opened: io::Result<R>,
     most: usize,
-) -> io::Result<u8> {
+) -> io::Result<Status> {
     let found = match opened {
         Ok(reader) => judge_on(rt.alloc(), &mut Watched::new(rt, name, reader), most),
         Err(error) => Err(error),
     };
     match found {
         Ok(found) => tell_all(rt, name, &found),
-        Err(error) => Ok(complain(rt, name, cause_of(&error), FAILED)),
+        Err(error) => Ok(complain(rt, name, cause_of(&error), Status::Failed)),
     }
 }
 
 /// Writes the text, and gives the exit status.
-fn print(rt: &HostRuntime, text: &str) -> io::Result<u8> {
+fn print(rt: &HostRuntime, text: &str) -> io::Result<Status> {
     rt.stdout().write_all(text.as_bytes())?;
-    Ok(LAWFUL)
+    Ok(Status::Lawful)
 }
 
 /// Judges the trace in the file that the words name, or on standard input. Where that is a terminal, it is said what is wanted.
-fn judge_named(rt: &HostRuntime, words: &[String], most: usize) -> io::Result<u8> {
+fn judge_named(rt: &HostRuntime, words: &[String], most: usize) -> io::Result<Status> {
     match words {
         [] if rt.stdin().is_terminal() => {
             let _ = eprintln!(rt; "{USAGE}");
-            Ok(BAD_COMMAND_LINE)
+            Ok(Status::BadCommandLine)
         }
         [] => judge(rt, INPUT, Ok(rt.stdin()), most),
         [file] if is_file(file) => judge(rt, file, fs::open(rt, file), most),
-        _ => Ok(complain(rt, "command line", NOT_USAGE, BAD_COMMAND_LINE)),
+        _ => Ok(complain(rt, "command line", NOT_USAGE, Status::BadCommandLine)),
     }
 }
 
 /// Does what the words ask for, and gives the exit status. It fails where standard output can't be written.
-fn run(rt: &HostRuntime, words: &[String]) -> io::Result<u8> {
+fn run(rt: &HostRuntime, words: &[String]) -> io::Result<Status> {
     match words {
         [word] if word.as_str() == "--help" => print(rt, HELP),
         [word] if word.as_str() == "--version" => print(rt, "iommu-judge 1.0\n"),
@@ -146,12 +143,12 @@ fn main(rt: HostRuntime) -> ExitCode {
     let status = match words_of(&rt) {
         Ok(words) => match run(&rt, &words) {
             Ok(status) => status,
-            Err(_) => complain(&rt, "standard output", "writing failed", FAILED),
+            Err(_) => complain(&rt, "standard output", "writing failed", Status::Failed),
         },
         Err(error) => match why_no_words(&error) {
-            None => complain(&rt, "command line", "it isn't text", BAD_COMMAND_LINE),
-            Some(why) => complain(&rt, "command line", why, FAILED),
+            None => complain(&rt, "command line", "it isn't text", Status::BadCommandLine),
+            Some(why) => complain(&rt, "command line", why, Status::Failed),
         },
     };
-    ExitCode::from(status)
+    ExitCode::from(status as u8)
 }

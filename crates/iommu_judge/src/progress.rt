@@ -15,8 +15,6 @@ pub(crate) struct Watched<'a, R> {
     name: &'a str,
     is_watched: bool,
     lines: u64,
-    /// The number of lines at which the next word is due.
-    due: u64,
 }
 
 impl<'a, R> Watched<'a, R> {
@@ -27,7 +25,6 @@ impl<'a, R> Watched<'a, R> {
             name,
             is_watched: rt.stderr().is_terminal(),
             lines: 0,
-            due: LINES_BETWEEN,
         }
     }
 
@@ -35,11 +32,11 @@ impl<'a, R> Watched<'a, R> {
     fn note(&mut self, bytes: &[u8])
         ensures { self.new.inner ≡ self.old.inner }
     {
+        let said = self.lines / LINES_BETWEEN;
         let ended = memchr_iter(b'\n', bytes).count() as u64;
         self.lines = self.lines.saturating_add(ended);
-        if self.lines >= self.due {
+        if self.lines / LINES_BETWEEN > said {
             let _ = eprintln!(self.rt; "iommu-judge: {}: {} lines read", self.name, self.lines);
-            self.due = self.due.saturating_add(LINES_BETWEEN);
         }
     }
 }
