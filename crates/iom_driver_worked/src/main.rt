@@ -11,7 +11,7 @@ use iom_hardware_runner::run;
 use std::{fs, io};
 
 /// The scripts of `data/drivers`. A new one is its two files and a line here.
-static DRIVERS: [&str; 57] = [
+static DRIVERS: [&str; 58] = [
     "correct-first",
     "correct-second",
     "correct-ats",
@@ -56,6 +56,7 @@ static DRIVERS: [&str; 57] = [
     "block-no-drain",
     "block-no-ats-inval",
     "large-leaf",
+    "ready-in-both",
     "auto-correct-first",
     "auto-correct-ats",
     "auto-fence-first",

@@ -13,17 +13,16 @@ const WAYS: usize = 8;
 /// Sets of it. A page is in the set of its number modulo this.
 const SETS: u64 = 64;
 
-/// The address space that the stages of the context translate. None where both are Bare.
+/// The address space in which a page is looked up that the context's device was granted. None where no stage translates; nor in both
+/// stages: there the page is a guest physical one, and the cache goes by pages of the guest's own addresses.
 fn space_of(context: &Context) -> Option<Space> {
     let pscid = context.pscid.number();
     let gscid = context.gscid;
     match (context.first_stage, context.second_stage) {
-        (FirstStage::Bare, SecondStage::Bare) => None,
         (FirstStage::Tables { .. }, SecondStage::Bare) => Some(Space::First { pscid }),
         (FirstStage::Bare, SecondStage::Tables { .. }) => Some(Space::Second { gscid }),
-        (FirstStage::Tables { .. }, SecondStage::Tables { .. }) => {
-            Some(Space::Both { gscid, pscid })
-        }
+        (FirstStage::Bare, SecondStage::Bare)
+        | (FirstStage::Tables { .. }, SecondStage::Tables { .. }) => None,
     }
 }
 
