@@ -237,7 +237,7 @@ fn finished_of(text: &[u8]) -> Option<(u16, u32)>
 }
 
 /// What a block device's step was that began no access, by its words.
-// Calls: written into its caller, this and the next would leave too little room there for what comes often.
+// Not written into its caller: with this there, too little room would be left for what comes often.
 #[inline(never)]
 fn step_of(text: &[u8]) -> Option<BlockStep>
     ensures { IfSome result (λ step. text.now ≡ step_text step) }
