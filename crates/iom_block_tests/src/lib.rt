@@ -14,3 +14,5 @@ mod machine;
 mod runs;
 #[cfg(test)]
 mod setup;
+#[cfg(test)]
+mod stepped;

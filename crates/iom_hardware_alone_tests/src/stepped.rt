@@ -14,12 +14,14 @@ use crate::setup::{
 use iom_ats_cache::Taken;
 use iom_base::{AccessKind, Cause, NewDevice, Refusal, Rights};
 use iom_board::laws::software_keeps_invariant;
-use iom_board::{CacheReply, Delivered, NoPlace, Sender};
-use iom_fabric::{PageNumber, Repeat, Translation};
+use iom_board::{Board, CacheReply, Delivered, NoPlace, Sender};
+use iom_fabric::{PageNumber, Translation};
+use iom_inflight::MadeAt;
 use iom_iommu::{Begun, Fetched, Load, Reply};
 use iom_registers::Mmio;
-use iom_stepped_board::SteppedBoard;
-use iom_stepped_board::laws::stays_beside;
+use iom_stepped_board::laws::{events_stay_beside, stays_beside};
+use iom_stepped_board::{begin, fetch, load, plug, remove_disk, reset, through_cache, translated};
+use iom_walks::Walks;
 use std::alloc::Global;
 use std::process::Abort;
 
@@ -30,20 +32,15 @@ enum Act<'a> {
     Write(u64, u64),
     Store(u64, u64),
     NoStore(u64, NoPlace),
-    /// The command with these two words, in this entry of the queue, is done; or waits, and is given up.
+    /// The command with these two words, in this entry of the queue, is done; or waits.
     Does(u32, (u64, u64)),
     Waits(u32, (u64, u64)),
-    Timeout(bool),
     Plug(u32, NewDevice, Result<(), Refusal>),
     Reset(u32, Result<(), Refusal>),
-    Medium(u32, u64, Result<(), Refusal>),
     RemoveDisk(u32, Result<(), Refusal>),
-    /// A device asks for the translation of a page, or says that a request is completed; what becomes of messages.
+    /// A device asks for the translation of a page; what becomes of messages.
     Ask(u32, u64, Result<bool, Refusal>),
-    Forge(u32, u64, Result<bool, Refusal>),
     Deliver(u64, Delivered),
-    Drop(u64, bool),
-    Repeat(u64, Repeat),
     /// The device asks for a read of one byte, or for a write of these; and so by a translated request, or through its cache.
     Begin(Sender, u32, u64, &'a [u8], Result<Begun, Refusal>),
     Translated(u32, u64, &'a [u8], Result<Reply, Refusal>),
@@ -58,23 +55,25 @@ enum Act<'a> {
 
 #[derive(Drop)]
 struct Machine {
-    hardware: SteppedBoard,
-    ghost invariants: { BoardInvariant (board_parts hardware.board) hardware.board.events } by { board_invariant_prop (board_parts hardware.board) hardware.board.events },
-    ghost beside: { AreBeside (board_parts hardware.board) hardware.walks } by { are_beside_prop (board_parts hardware.board) hardware.walks },
+    board: Board,
+    walks: Walks,
+    ghost invariants: { BoardInvariant (board_parts board) board.events } by { board_invariant_prop (board_parts board) board.events },
+    ghost beside: { AreBeside (board_parts board) walks } by { are_beside_prop (board_parts board) walks },
 }
 
 impl Machine {
     /// At power-on, with the disks 3 and 4. Boxed: of what a test owns in place each later proof would carry every part.
     fn at_power_on(rt: &impl Abort, alloc: Global) -> Box<Machine> {
-        let hardware = SteppedBoard::new(alloc, FRAMES, &[3, 4]).expect(rt, "memory for it");
-        Box::new(alloc, Machine { hardware }).expect(rt, "memory for the machine")
+        let board = Board::new(alloc, FRAMES, &[3, 4]).expect(rt, "memory for it");
+        let walks = Walks::new(alloc).expect(rt, "memory for walks");
+        Box::new(alloc, Machine { board, walks }).expect(rt, "memory for the machine")
     }
 
     /// One more event can be counted.
     fn expect_room(&self, rt: &impl Abort)
-        ensures { self.now.hardware.board.events + 1 < 2 ^ 64 }
+        ensures { self.now.board.events + 1 < 2 ^ 64 }
     {
-        let has_room = self.hardware.board.events < u64::MAX;
+        let has_room = self.board.events < u64::MAX;
         assert!(rt; has_room);
     }
 
@@ -82,13 +81,14 @@ impl Machine {
         software_keeps_invariant();
         stays_beside();
         let width = width_at(offset);
-        let written = self.hardware.board.iommu.write(offset, width, value);
+        let written = self.board.iommu.write(offset, width, value);
         expect(rt, written.is_ok());
     }
 
     fn stores(&mut self, rt: &impl Abort, address: u64, word: u64, expected: Result<(), NoPlace>) {
+        stays_beside();
         self.expect_room(rt);
-        let stored = self.hardware.store(address, &word.to_le_bytes());
+        let stored = self.board.store(address, &word.to_le_bytes());
         expect(rt, stored == expected);
     }
 
@@ -104,69 +104,41 @@ impl Machine {
         self.stores(rt, place + 8, second, Ok(()));
         self.write(rt, CQT, u64::from(index).wrapping_add(1));
         self.expect_room(rt);
-        let fetched = self.hardware.fetch();
+        let fetched = fetch(&mut self.board, &mut self.walks);
         expect(rt, fetched == expected);
-    }
-
-    fn times_out(&mut self, rt: &impl Abort, expected: bool) {
-        self.expect_room(rt);
-        let has_effect = self.hardware.timeout();
-        expect(rt, has_effect == expected);
     }
 
     fn plugs(&mut self, rt: &impl Abort, id: u32, what: NewDevice, expected: Result<(), Refusal>) {
         self.expect_room(rt);
-        let plugged = self.hardware.plug(id, what);
+        let plugged = plug(&mut self.board, &mut self.walks, id, what);
         expect(rt, plugged == expected);
     }
 
     fn resets(&mut self, rt: &impl Abort, id: u32, expected: Result<(), Refusal>) {
         self.expect_room(rt);
-        let reset = self.hardware.reset(id);
+        let reset = reset(&mut self.board, &mut self.walks, id);
         expect(rt, reset == expected);
-    }
-
-    fn takes_disk(&mut self, rt: &impl Abort, id: u32, disk: u64, expected: Result<(), Refusal>) {
-        self.expect_room(rt);
-        let taken = self.hardware.medium(id, disk);
-        expect(rt, taken == expected);
     }
 
     fn loses_disk(&mut self, rt: &impl Abort, id: u32, expected: Result<(), Refusal>) {
         self.expect_room(rt);
-        let lost = self.hardware.remove_disk(id);
+        let lost = remove_disk(&mut self.board, &mut self.walks, id);
         expect(rt, lost == expected);
     }
 
     fn questions(&mut self, rt: &impl Abort, id: u32, page: u64, expected: Result<bool, Refusal>) {
+        events_stay_beside();
         self.expect_room(rt);
         let page = PageNumber::new(page).expect(rt, "52 bits");
-        let sent = self.hardware.ask(id, page);
-        expect(rt, sent == expected);
-    }
-
-    fn forges(&mut self, rt: &impl Abort, id: u32, serial: u64, expected: Result<bool, Refusal>) {
-        self.expect_room(rt);
-        let sent = self.hardware.forge(id, serial);
+        let sent = self.board.ask(id, page);
         expect(rt, sent == expected);
     }
 
     fn delivers(&mut self, rt: &impl Abort, place: u64, expected: Delivered) {
+        events_stay_beside();
         self.expect_room(rt);
-        let delivered = self.hardware.deliver(place);
+        let delivered = self.board.deliver(place);
         expect(rt, delivered == expected);
-    }
-
-    fn drops(&mut self, rt: &impl Abort, place: u64, expected: bool) {
-        self.expect_room(rt);
-        let found = self.hardware.drop_message(place);
-        expect(rt, found == expected);
-    }
-
-    fn repeats(&mut self, rt: &impl Abort, place: u64, expected: Repeat) {
-        self.expect_room(rt);
-        let repeated = self.hardware.repeat(place);
-        expect(rt, repeated == expected);
     }
 
     fn begins(
@@ -183,7 +155,16 @@ impl Machine {
         } else {
             (bytes.len() as u64, AccessKind::Write)
         };
-        self.hardware.begin(sender, id, address, len, kind, bytes)
+        begin(
+            &mut self.board,
+            &mut self.walks,
+            sender,
+            id,
+            address,
+            len,
+            kind,
+            bytes,
+        )
     }
 
     fn translated(
@@ -199,7 +180,7 @@ impl Machine {
         } else {
             (bytes.len() as u64, AccessKind::Write)
         };
-        self.hardware.translated(id, address, len, kind, bytes)
+        translated(&mut self.board, &self.walks, id, address, len, kind, bytes)
     }
 
     fn through(
@@ -216,8 +197,16 @@ impl Machine {
         } else {
             (bytes.len() as u64, AccessKind::Write)
         };
-        self.hardware
-            .through_cache(sender, id, address, len, kind, bytes)
+        through_cache(
+            &mut self.board,
+            &self.walks,
+            sender,
+            id,
+            address,
+            len,
+            kind,
+            bytes,
+        )
     }
 
     fn begins_each(&mut self, rt: &impl Abort, times: u32, address: u64) {
@@ -229,20 +218,24 @@ impl Machine {
 
     fn loads(&mut self, rt: &impl Abort, id: u32, expected: Result<Load, Refusal>) {
         self.expect_room(rt);
-        let loaded = self.hardware.load(id);
+        let loaded = load(&mut self.board, &mut self.walks, id);
         expect(rt, loaded == expected);
     }
 
-    fn makes(&mut self, rt: &impl Abort, id: u32, frame: u32) {
+    fn commits(&mut self, rt: &impl Abort, id: u32) -> Result<Option<MadeAt>, Refusal> {
+        events_stay_beside();
         self.expect_room(rt);
-        let committed = self.hardware.commit(id);
+        self.board.commit(id)
+    }
+
+    fn makes(&mut self, rt: &impl Abort, id: u32, frame: u32) {
+        let committed = self.commits(rt, id);
         let made = committed.expect(rt, "a device").expect(rt, "an access");
         expect(rt, made.frame == frame);
     }
 
     fn makes_none(&mut self, rt: &impl Abort, id: u32, expected: Result<(), Refusal>) {
-        self.expect_room(rt);
-        let committed = self.hardware.commit(id);
+        let committed = self.commits(rt, id);
         expect(rt, committed == expected.map(|()| None));
     }
 
@@ -253,10 +246,8 @@ impl Machine {
             Act::NoStore(address, why) => self.stores(rt, address, 0, Err(why)),
             Act::Does(index, words) => self.fetches(rt, index, words, did(rt, words)),
             Act::Waits(index, words) => self.fetches(rt, index, words, Fetched::Waiting),
-            Act::Timeout(expected) => self.times_out(rt, expected),
             Act::Plug(id, what, expected) => self.plugs(rt, id, what, expected),
             Act::Reset(id, expected) => self.resets(rt, id, expected),
-            Act::Medium(id, disk, expected) => self.takes_disk(rt, id, disk, expected),
             Act::RemoveDisk(id, expected) => self.loses_disk(rt, id, expected),
             _ => self.sends(rt, act),
         }
@@ -266,10 +257,7 @@ impl Machine {
     fn sends(&mut self, rt: &impl Abort, act: Act) {
         match act {
             Act::Ask(id, page, expected) => self.questions(rt, id, page, expected),
-            Act::Forge(id, serial, expected) => self.forges(rt, id, serial, expected),
             Act::Deliver(place, expected) => self.delivers(rt, place, expected),
-            Act::Drop(place, expected) => self.drops(rt, place, expected),
-            Act::Repeat(place, expected) => self.repeats(rt, place, expected),
             Act::Each(times, address) => self.begins_each(rt, times, address),
             Act::Load(id, expected) => self.loads(rt, id, expected),
             Act::MadeIn(id, frame) => self.makes(rt, id, frame),
@@ -395,13 +383,11 @@ static EIGHT: [Act; 15] = [
 ];
 
 /// Messages go on while a walk is under way, which stays.
-static ASKED: [Act; 14] = [
+static ASKED: [Act; 11] = [
     Act::Store(CONTEXT, 3),
     Act::Plug(DEVICE, NewDevice::Ats, Ok(())),
     Act::Through(Sender::Own, DEVICE, 0x3010, b"", Ok(CacheReply::Miss)),
     Act::Ask(DEVICE, 3, Ok(true)),
-    Act::Repeat(0, Repeat::Repeated),
-    Act::Drop(1, true),
     Act::Deliver(
         0,
         Delivered::Answered(Translation::Page {
@@ -420,24 +406,19 @@ static ASKED: [Act; 14] = [
     Act::MadeIn(DEVICE, 32),
     Act::Does(0, INVALIDATE),
     Act::Waits(1, FENCE),
-    Act::Timeout(true),
     Act::Translated(DEVICE, 0x3010, b"", Err(Refusal::WrongKind)),
 ];
 
-/// What a raw device sends, and disks: a walk of a device that loses its disk is given up.
-static OTHERS: [Act; 14] = [
+/// A walk of a device that loses its disk is given up.
+static OTHERS: [Act; 10] = [
     Act::Plug(DEVICE, NewDevice::Raw, Ok(())),
     Act::Begin(Sender::Own, DEVICE, 0x3010, b"", WALKS),
     Act::Load(DEVICE, LOADED),
-    Act::Forge(DEVICE, 7, Ok(true)),
-    Act::Deliver(0, Delivered::NotClosed(7)),
     Act::Load(DEVICE, LOADED),
     Act::RemoveDisk(DEVICE, Ok(())),
     Act::Load(DEVICE, Ok(Load::Nothing)),
     Act::Plug(6, NewDevice::Block { disk: 3 }, Ok(())),
-    Act::Medium(6, 4, Err(Refusal::BadMedium)),
     Act::RemoveDisk(6, Ok(())),
-    Act::Medium(6, 4, Ok(())),
     Act::Through(Sender::Own, 6, 0x3010, b"", Err(Refusal::WrongKind)),
     Act::MakesNone(7, Err(Refusal::NoSuchDevice)),
 ];

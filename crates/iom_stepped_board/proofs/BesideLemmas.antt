@@ -1,6 +1,5 @@
 -- What is under way beside a board stays so, by what changes.
-use Rattle.std.proofs.Common.{◌≡◌, ◌≢◌, ◌==◌, ◌+◌, ◌<◌, ◌≤◌, ◌∙◌, ◌++◌, ◌∷◌, [], inl, inr, ℕ, Bool, true, false, List, length, Option, Some, None, IsSome, is_some, refl, sym, ap, subst, arith, if◌then◌else◌}
-use Rattle.std.specs.Option.{option_map}
+use Rattle.std.proofs.Common.{◌≡◌, ◌≢◌, ◌==◌, ◌+◌, ◌<◌, ◌≤◌, ◌∙◌, ◌∷◌, [], inl, inr, ℕ, Bool, true, false, List, length, Option, Some, None, IsSome, is_some, refl, sym, ap, subst, arith, if◌then◌else◌}
 use Rattle.std.proofs.lemmas.Bool.{eqb-true, false≢true}
 use Rattle.std.proofs.lemmas.Bool.Decides.{eqb_tells}
 use Rattle.iom_board.specs.BoardParts.{BoardParts}
@@ -11,7 +10,7 @@ use Rattle.iom_board.specs.Permits.{IsPermitted}
 use Rattle.iom_board.proofs.Permitted.{able, there}
 use Rattle.iom_device.specs.Caches.{device_with, kind_in}
 use Rattle.iom_device.specs.declared.device.Device.{Device}
-use Rattle.iom_inflight.specs.Calls.{IsAccepted, IsMade, MakesOldestInFlight, with_access}
+use Rattle.iom_inflight.specs.Calls.{IsAccepted, MakesOldestInFlight, with_access}
 use Rattle.iom_inflight.specs.declared.made.MadeAt.{MadeAt}
 use Rattle.iom_inflight.specs.Flights.{Flights, FlightRow, count_in}
 use Rattle.iom_inflight.specs.Flights as flights
@@ -19,7 +18,7 @@ use Rattle.iom_inflight.proofs.Rows as flight_rows
 use Rattle.iom_iommu.specs.Parts.{flights_of}
 use Rattle.iom_registers.specs.declared.directory.DirectoryPointer.{DirectoryPointer}
 use Rattle.iom_walks.proofs.Rows as walk_rows
-use Rattle.iom_walks.specs.Calls.{AllBeginAnew, RowBeginsAnew, WhatBeginsAnew, given_up}
+use Rattle.iom_walks.specs.Calls.{AllBeginAnew, WhatBeginsAnew, given_up}
 use Rattle.iom_walks.specs.Walks.{UnderWay, WalkRow, idle_row, row_of, under_way_in, under_way_of, with_row}
 use Rattle.iom_stepped_board.specs.Beside.{AreBeside, walk_ids}
 

@@ -1,5 +1,5 @@
 -- What stays true of a board, and of what is under way beside it, when the IOMMU begins a request or makes a load.
-use Rattle.std.proofs.Common.{◌≡◌, ◌≢◌, ◌+◌, ◌<◌, ◌≤◌, ◌∙◌, ◌∷◌, [], inl, inr, ℕ, Bool, true, List, length, Option, Some, None, IsSome, is_some, Result, refl, sym, ap, subst, arith, if◌then◌else◌}
+use Rattle.std.proofs.Common.{◌≡◌, ◌≢◌, ◌+◌, ◌<◌, ◌≤◌, ◌∙◌, ◌∷◌, [], inl, inr, ℕ, Bool, List, length, Option, Some, None, IsSome, is_some, Result, refl, sym, ap, subst, arith, if◌then◌else◌}
 use Rattle.std.proofs.lemmas.List.{length-append}
 use Rattle.iom_base.specs.Accesses.{at_frame}
 use Rattle.iom_base.specs.declared.access.Access.{Access}
@@ -30,7 +30,7 @@ use Rattle.iom_iommu.specs.declared.reply.Reply.TheVariants.{Accepted, Busy, Fau
 use Rattle.iom_stage_walk.specs.declared.walked.WalkFault.{WalkFault}
 use Rattle.iom_tlb.specs.declared.trans_cache.Translation.{Translation}
 use Rattle.iom_walks.specs.Calls.{row_walking, row_going_on}
-use Rattle.iom_walks.specs.Walks.{UnderWay, WalkRow, idle_row, row_of, under_way_in, under_way_of, with_row}
+use Rattle.iom_walks.specs.Walks.{WalkRow, idle_row, under_way_in, under_way_of}
 use Rattle.iom_stepped_board.specs.Beside.{AreBeside, walk_ids}
 use Rattle.iom_stepped_board.specs.Requests.{BeginsBeside, LoadsBeside}
 use Rattle.iom_stepped_board.specs.ThroughCache.{GoesByCacheBeside, GoesByFrameBeside}

@@ -1,5 +1,5 @@
 -- What stays true of what is under way beside a board, when a command is taken, an access is made, or a device is reset.
-use Rattle.std.proofs.Common.{◌≡◌, ◌==◌, ◌+◌, ◌<◌, ◌≤◌, ◌⊎◌, ◌∙◌, ◌++◌, ◌∷◌, [], inl, inr, ℕ, Bool, true, false, List, length, map, suc, Option, Some, None, IsSome, Result, slice_get, remove, refl, sym, ap, subst, arith}
+use Rattle.std.proofs.Common.{◌≡◌, ◌==◌, ◌<◌, ◌≤◌, ◌⊎◌, ◌∙◌, ◌++◌, ◌∷◌, [], inl, inr, ℕ, Bool, true, false, List, length, map, suc, Option, Some, None, IsSome, Result, slice_get, remove, refl, sym, ap, subst, arith}
 use Rattle.std.proofs.lemmas.Bool.Decides.{eqb_tells}
 use Rattle.iom_base.specs.declared.device_kind.NewDevice.{NewDevice}
 use Rattle.iom_board.specs.Plugging.{LosesDisk, PutsDiskIntoDevice, StandsBehindOthers, newly_plugged}
@@ -33,7 +33,7 @@ use Rattle.iom_inflight.specs.declared.made.MadeAt.{MadeAt}
 use Rattle.iom_iommu.specs.OwnIommu.{Iommu}
 use Rattle.iom_iommu.specs.Parts.{flights_of, registers_of}
 use Rattle.iom_iommu.specs.Effects.{FetchesByAnswer, StopsFetching, StopsAtEntry}
-use Rattle.iom_iommu.specs.Fetches.{FetchesCommand, head_entry}
+use Rattle.iom_iommu.specs.Fetches.{head_entry}
 use Rattle.iom_iommu.specs.Questions.{AnswersQuestion}
 use Rattle.iom_iommu.specs.Timeouts.{TimesFenceOut}
 use Rattle.iom_iommu.proofs.ByAnswer.{by_answer}

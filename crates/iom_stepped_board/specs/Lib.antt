@@ -1,4 +1,5 @@
 pub mod Beside
 pub mod BesideIsFact
+pub mod Events
 pub mod Requests
 pub mod ThroughCache

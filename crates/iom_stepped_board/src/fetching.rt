@@ -8,10 +8,11 @@ ghost use Rattle.iom_iommu.specs.Parts.{registers_of};
 ghost use Rattle.iom_iommu.specs.Stepped.{BeginsAnewAfter, begins_anew};
 ghost use Rattle.iom_stepped_board.specs.Beside.{AreBeside};
 
-use crate::board::SteppedBoard;
+use iom_board::Board;
 use iom_command_queue::Command;
 use iom_iommu::Fetched;
 use iom_registers::{DirectoryPointer, Registers};
+use iom_walks::Walks;
 
 /// What `ddtp` holds.
 fn directory_pointer(registers: &Registers) -> DirectoryPointer
@@ -40,25 +41,23 @@ fn begins_anew(fetched: &Fetched) -> bool
     }
 }
 
-impl SteppedBoard {
-    /// The IOMMU takes the command at the head of its queue, as a board's does. Where that is an IOTINVAL or an IODIR.INVAL_DDT,
-    /// whatever it covers, all requests that are under way begin anew, from the root of the directory, and look in no cache. A fence
-    /// waits for none of them.
-    pub fn fetch(&mut self) -> Fetched
-        requires invariants { BoardInvariant (board_parts self.old.board) self.old.board.events }
-        requires beside { AreBeside (board_parts self.old.board) self.old.walks }
-        requires count { self.old.board.events + 1 < 2 ^ 64 }
-        ensures effect { TakesCommand (board_parts self.old.board) result (board_parts self.new.board) }
-        ensures anew { BeginsAnewAfter (begins_anew result) (registers_of self.new.board.iommu).ddtp self.old.walks self.new.walks }
-        ensures invariants { BoardInvariant (board_parts self.new.board) self.new.board.events }
-        ensures beside { AreBeside (board_parts self.new.board) self.new.walks }
-        ensures counted { IsCounted self.old.board self.new.board }
-    {
-        let fetched = self.board.fetch();
-        if begins_anew(&fetched) {
-            let ddtp = directory_pointer(self.board.iommu.registers());
-            self.walks.begin_anew(ddtp);
-        }
-        fetched
+/// The IOMMU takes the command at the head of its queue, as a board's does. Where that is an IOTINVAL or an IODIR.INVAL_DDT,
+/// whatever it covers, all requests that are under way begin anew, from the root of the directory, and look in no cache. A fence
+/// waits for none of them.
+pub fn fetch(board: &mut Board, walks: &mut Walks) -> Fetched
+    requires invariants { BoardInvariant (board_parts board.old) board.old.events }
+    requires beside { AreBeside (board_parts board.old) walks.old }
+    requires count { board.old.events + 1 < 2 ^ 64 }
+    ensures effect { TakesCommand (board_parts board.old) result (board_parts board.new) }
+    ensures anew { BeginsAnewAfter (begins_anew result) (registers_of board.new.iommu).ddtp walks.old walks.new }
+    ensures invariants { BoardInvariant (board_parts board.new) board.new.events }
+    ensures beside { AreBeside (board_parts board.new) walks.new }
+    ensures counted { IsCounted board.old board.new }
+{
+    let fetched = board.fetch();
+    if begins_anew(&fetched) {
+        let ddtp = directory_pointer(board.iommu.registers());
+        walks.begin_anew(ddtp);
     }
+    fetched
 }

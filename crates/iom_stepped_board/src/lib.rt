@@ -2,21 +2,23 @@
 //! IOMMU Architecture Specification, section 2.3, "Process to translate an IOVA", which doesn't order the loads of a walk with what
 //! others do meanwhile).
 //!
-//! A request that needs a load is under way from then on, and each load is an event of its own. Whatever else happens between two
-//! of them is an event of the board. The layers above may rely on each call doing what its relation in `specs/` says, on what stays
-//! true of the board (`BoardInvariant` of `iom_board`), and on this: each device has a row for its request, and one that is under
-//! way has its place among the device's eight accesses (`AreBeside`).
+//! A request that needs a load is under way from then on, and each load is an event of its own. The calls here are those in which
+//! what is under way has a part; each is lent the board and what is under way beside it. Whatever else happens between two loads is
+//! a call of the board alone. The layers above may rely on each call doing what its relation in `specs/` says, on what stays true of
+//! the board (`BoardInvariant` of `iom_board`), and on this: each device has a row for its request, and one that is under way has its
+//! place among the device's eight accesses (`AreBeside`), which the calls of the board alone leave so ([`laws`]).
 #![tactic(auto)]
 
-mod board;
+mod cached_requests;
 mod fetching;
 pub mod laws;
-mod messages;
 mod permits;
-mod processor;
+mod plugging;
 mod recovery;
 mod requests;
-mod start;
-mod through_cache;
 
-pub use board::SteppedBoard;
+pub use cached_requests::through_cache;
+pub use fetching::fetch;
+pub use plugging::plug;
+pub use recovery::{remove_disk, reset};
+pub use requests::{begin, load, translated};
