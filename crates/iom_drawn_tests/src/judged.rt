@@ -3,7 +3,7 @@
 use crate::choices::Choices;
 use crate::expect::expect;
 use crate::notes::{Note, come_often};
-use crate::run::{Plan, Run};
+use crate::run::{Plan, Run, Step};
 use iom_kept_state::KeptState;
 use iom_machine::Limits;
 use iom_machine_judge::judge;
@@ -11,22 +11,48 @@ use std::alloc::{AllocError, Global};
 use std::process::Abort;
 use std::test::Fail;
 
-/// How many of the steps the judge finds lawful, and the list of the messages under way too, up to the first that
-/// isn't so.
+/// Whether the judge finds the step lawful, and the list of the messages under way is so too.
+fn is_step_lawful(
+    alloc: Global,
+    kept: &mut KeptState,
+    choices: &mut Choices,
+    step: &Step,
+) -> Result<bool, AllocError> {
+    if !step.agrees {
+        return Ok(false);
+    }
+    let choice = choices.choice(alloc, kept, step)?;
+    judge(
+        alloc,
+        kept,
+        &step.event,
+        &step.outcome,
+        &choice,
+        &choice.access,
+    )
+}
+
+/// How many of the steps are so, up to the first that isn't.
+// What is kept is lent: of what a function owns each later statement carries every part.
+fn lawful_among(
+    alloc: Global,
+    kept: &mut KeptState,
+    choices: &mut Choices,
+    steps: &[Step],
+) -> Result<usize, AllocError> {
+    for place in 0..steps.len() {
+        if !is_step_lawful(alloc, kept, choices, &steps[place])? {
+            return Ok(place);
+        }
+    }
+    Ok(steps.len())
+}
+
+/// How many of the run's are, from power-on.
 fn lawful(alloc: Global, run: &Run) -> Result<usize, AllocError> {
     let mut kept = KeptState::power_on(alloc, Limits::of_model(), 64, run.levels, &[])?;
     let mut choices = Choices::new(alloc);
-    for (number, step) in run.steps.iter().enumerate() {
-        if !step.agrees {
-            return Ok(number);
-        }
-        let choice = choices.choice(alloc, &kept, step)?;
-        let (event, outcome) = (&step.event, &step.outcome);
-        if !judge(alloc, &mut kept, event, outcome, &choice, &choice.access)? {
-            return Ok(number);
-        }
-    }
-    Ok(run.steps.len())
+    lawful_among(alloc, &mut kept, &mut choices, &run.steps)
 }
 
 /// Whether the judge finds each step of a run of 2,000 events lawful, the world counts its events, and it settles at the end.

@@ -1,5 +1,5 @@
 -- What a good claim means, by what is found of it.
-use Rattle.std.proofs.Common.{◌≡◌, ◌↔◌, ℕ, ◌<◌, List, Bool, true, false, Option, None, Some, IsSome, is_some, IfSome, Result, Ok, Err, OnOk, is_err, refl, subst, arith}
+use Rattle.std.proofs.Common.{◌≡◌, ◌↔◌, ℕ, ◌<◌, List, true, false, Option, None, Some, IsSome, is_some, IfSome, Result, Ok, Err, OnOk, is_err, refl, subst, arith}
 use Rattle.std.proofs.lemmas.Bool.{false≢true}
 use Rattle.iom_base.specs.declared.access.AccessKind.{AccessKind}
 use Rattle.iom_base.specs.declared.refusal.Refusal.{Refusal}
@@ -16,7 +16,7 @@ use Rattle.iom_hardware_session.specs.Admitted.{CanBeMade, IsOpenClaim, IsJudged
 use Rattle.iom_hardware_session.specs.declared.answer.ClaimAnswer.{ClaimAnswer}
 use Rattle.iom_hardware_session.specs.declared.answer.ClaimAnswer.TheVariants as found
 use Rattle.iom_hardware_session.specs.Claiming.{is_judgement, claimed_after}
-use Rattle.iom_hardware_session.specs.Good.{IsCertain, HasClaimedWaysAlone, GoodMeans}
+use Rattle.iom_hardware_session.specs.Good.{IsCertain, HasClaimedWaysAlone, DoneIsGood}
 use Rattle.iom_hardware_session.specs.Wrong.{SomebodyHolds, SomebodyLingers, ReachesBeyond, DoneIsWrong, HandOffIsWrong, WrongMeans, IfWrong}
 use Rattle.iom_ledger.specs.History.{Pair, May}
 use Rattle.iom_reach.specs.Scene.{HardwareScene}
@@ -28,7 +28,7 @@ use Rattle.iom_way_survey.specs.declared.findings.Survey.{Survey}
 pub done_good : (scene : HardwareScene) (claimed : Claimed) (number : ℕ) (own : Grant) (answer : ClaimAnswer)
     → IsCertain scene × HasClaimedWaysAlone scene (after_done number claimed) own.device own.frame
     → ((grant : Grant) → IsOpen claimed.history (record { number = number; grant = grant }) → Some own ≡ Some grant)
-    → answer ≡ found.Good → GoodMeans (claim.Done number) scene claimed (claimed_after (claim.Done number) answer claimed)
+    → answer ≡ found.Good → DoneIsGood scene claimed (claimed_after (claim.Done number) answer claimed) number
 done_good scene claimed number own answer certain only is =
     rw is (certain.0, λ grant opened. subst (λ (g : Grant). HasClaimedWaysAlone scene (after_done number claimed) g.device g.frame) (inside (only grant opened)) certain.1)
   where

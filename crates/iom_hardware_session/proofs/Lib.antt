@@ -13,3 +13,4 @@ pub mod KeepLemmas
 pub mod ClaimLemmas
 pub mod SessionLemmas
 mod SameLemmas
+pub mod ReadyLemmas

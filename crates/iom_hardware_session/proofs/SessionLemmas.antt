@@ -15,7 +15,7 @@ use Rattle.iom_hardware_session.proofs.ClaimLemmas.{IsNotEndedWhere, IsKept, not
 use Rattle.iom_hardware_session.proofs.EventLemmas.{event_effect}
 use Rattle.iom_hardware_session.proofs.KeepLemmas.{IsWatched, judged_holds, still_watched, stays_sooner, call_sooner, none_fewer, one_more, holds_sooner}
 use Rattle.iom_hardware_session.specs.Answered.{judgement_in}
-use Rattle.iom_hardware_session.specs.Good.{scene_in, GoodMeans}
+use Rattle.iom_hardware_session.specs.Good.{GoodMeans}
 use Rattle.iom_hardware_session.specs.Laws.{DoneStaysDone, HandedOffStaysFree, GoodAgainHolds}
 use Rattle.iom_hardware_session.specs.Shown.{shown_in}
 use Rattle.iom_hardware_session.specs.Lines.{LineEffect, Trusts, TrustsWhere, TrustsBy, IsAdmittedWhere, IsAdmittedLine, IsGoodWhere, IsGoodLine, WatchesClaimWhere, WatchesStep, WatchesWhere, WatchesBy, claimed_where, claimed_by, is_of_software}
@@ -76,7 +76,7 @@ software_claims_nothing (line.Help help) answer trusted before is = refl
 -- a claim, where it is judged
 claim_line : DoneStaysDone → HandedOffStaysFree → (own : Said) (answer : Option ClaimAnswer) (claim : GoodClaim) (old new : Session) (before : Claimed) → ShowsClaimed old.claims before
     → board_parts new.hardware.board ≡ board_parts old.hardware.board → TrustsWhere own answer old.trusted.items new.trusted.items → IsAdmittedWhere own answer old.hardware.board before
-    → IsGoodWhere own answer (scene_in new) before → WatchesClaimWhere own answer before (still_good old.watched.items) new.watched.items → is_wrong_claim answer ≡ false
+    → IsGoodWhere own answer new.hardware.board new.trusted.items before → WatchesClaimWhere own answer before (still_good old.watched.items) new.watched.items → is_wrong_claim answer ≡ false
     → IsNotEndedWhere claim own answer → IsKept claim old before → IsKept claim new (claimed_where own answer before)
 claim_line unchanged free own None claim old new before shows same trusts admitted means watches fine ends (was, holds) = absurd admitted
 claim_line unchanged free own (Some answer) claim old new before shows same trusts admitted means watches fine ends (was, holds) =
@@ -97,7 +97,7 @@ stays_line claim old new before same trusts watches (was, holds) = (
 
 -- a line that isn't of software
 hard_line : DoneStaysDone → HandedOffStaysFree → (own : HardwareLine) (answer : Answer) (claim : GoodClaim) (old new : Session) (before : Claimed) → ShowsClaimed old.claims before
-    → LineEffect own answer (shown_in old) (shown_in new) → TrustsBy own answer old.trusted.items new.trusted.items → IsAdmittedLine own answer old.hardware.board before → IsGoodLine own answer (scene_in new) before
+    → LineEffect own answer (shown_in old) (shown_in new) → TrustsBy own answer old.trusted.items new.trusted.items → IsAdmittedLine own answer old.hardware.board before → IsGoodLine own answer new.hardware.board new.trusted.items before
     → WatchesStep own answer before (still_good old.watched.items) new.watched.items → is_of_software own answer old.trusted.items ≡ false → is_wrong_claim (judgement_in answer) ≡ false
     → IsNotEndedBy claim own answer → IsKept claim old before → IsKept claim new (claimed_by own answer before)
 hard_line unchanged free (line.Event event) answer claim old new before shows effect trusts admitted means watches soft fine ends (was, holds) = (
@@ -156,11 +156,11 @@ accesses_are_claimed old new before after (first ∷ others) (between, goes, res
 
 -- the line at which something is claimed to be done
 begins_done : DoneStaysDone → (own : HardwareLine) (answer : Answer) (number : ℕ) (grant : Grant) (old new : Session) (before : Claimed) → own ≡ line.Claim (said.Done number)
-    → answer ≡ answered.Claim found.Good → ShowsClaimed old.claims before → IsOpen before.history (claim_from number grant) → IsGoodLine own answer (scene_in new) before
+    → answer ≡ answered.Claim found.Good → ShowsClaimed old.claims before → IsOpen before.history (claim_from number grant) → IsGoodLine own answer new.hardware.board new.trusted.items before
     → WatchesBy own answer before old new → IsKept (good.Done number grant.device grant.frame) new (claimed_by own answer before)
 begins_done unchanged own answer number grant old new before is fine shows opened means watches =
-    let goods : found.Good ≡ found.Good → GoodMeans (said.Done number) (scene_in new) before (after_done number before) =
-    subst (λ (a : Answer). IsGoodLine (line.Claim (said.Done number)) a (scene_in new) before) fine (subst (λ (l : HardwareLine). IsGoodLine l answer (scene_in new) before) is means) in
+    let goods : found.Good ≡ found.Good → GoodMeans (said.Done number) new.hardware.board new.trusted.items before (after_done number before) =
+    subst (λ (a : Answer). IsGoodLine (line.Claim (said.Done number)) a new.hardware.board new.trusted.items before) fine (subst (λ (l : HardwareLine). IsGoodLine l answer new.hardware.board new.trusted.items before) is means) in
     let (own_grant, own_open, watched) = as_done in
     let same = same_open old.claims before number own_grant grant shows own_open opened in
     subst (λ (c : Claimed). IsKept (good.Done number grant.device grant.frame) new c) (sym claims)
@@ -181,10 +181,10 @@ done_stays_out again unchanged free old new before after done later number grant
 
 -- the line at which a frame is handed off
 begins_hand_off : HandedOffStaysFree → (own : HardwareLine) (answer : Answer) (frame : ℕ) (old new : Session) (before : Claimed) → own ≡ line.Claim (said.HandOff frame)
-    → answer ≡ answered.Claim found.Good → IsGoodLine own answer (scene_in new) before → WatchesBy own answer before old new → IsKept (good.HandedOff frame) new (claimed_by own answer before)
+    → answer ≡ answered.Claim found.Good → IsGoodLine own answer new.hardware.board new.trusted.items before → WatchesBy own answer before old new → IsKept (good.HandedOff frame) new (claimed_by own answer before)
 begins_hand_off free own answer frame old new before is fine means watches =
-    let goods : found.Good ≡ found.Good → GoodMeans (said.HandOff frame) (scene_in new) before (after_mark frame true before) =
-    subst (λ (a : Answer). IsGoodLine (line.Claim (said.HandOff frame)) a (scene_in new) before) fine (subst (λ (l : HardwareLine). IsGoodLine l answer (scene_in new) before) is means) in
+    let goods : found.Good ≡ found.Good → GoodMeans (said.HandOff frame) new.hardware.board new.trusted.items before (after_mark frame true before) =
+    subst (λ (a : Answer). IsGoodLine (line.Claim (said.HandOff frame)) a new.hardware.board new.trusted.items before) fine (subst (λ (l : HardwareLine). IsGoodLine l answer new.hardware.board new.trusted.items before) is means) in
     hand_off_is_kept free frame new before (claimed_by own answer before) (still_good old.watched.items) (goods refl)
     (subst (λ (a : Answer). WatchesBy (line.Claim (said.HandOff frame)) a before old new) fine (subst (λ (l : HardwareLine). WatchesBy l answer before old new) is watches))
 

@@ -1,6 +1,5 @@
 -- Messages of no epoch to come are questions and answers of none.
-use Rattle.std.proofs.Common.{◌≡◌, ◌≤◌, ◌<◌, ◌∙◌, ℕ, zero, suc, Bool, List, [], ◌∷◌, map, length, get_or, slice_get, Contains, Option, None, Some, refl, sym, ap, subst, arith}
-use Rattle.std.proofs.lemmas.Option.{slice_get-get_or, slice_get-map}
+use Rattle.std.proofs.Common.{◌≡◌, ◌≤◌, ℕ, zero, suc, Bool, List, [], ◌∷◌, map, slice_get, Contains, Some, refl, subst, arith}
 use Rattle.iom_device.specs.Caches.{epoch_in}
 use Rattle.iom_fabric.specs.declared.fabric.OnLink.{OnLink}
 use Rattle.iom_fabric.specs.declared.message.Message.{Message as Sent}
@@ -9,7 +8,7 @@ use Rattle.iom_fabric.specs.declared.message.Translation.TheVariants as reply
 use Rattle.iom_board.specs.BoardParts.{BoardParts}
 use Rattle.iom_hardware_ways.specs.Scenes.{message_of, said_on, scene_of}
 use Rattle.iom_reach.specs.Safe.{AreTimely}
-use Rattle.iom_reach.specs.Scene.{Message, Question, Answer, Other, Mapping}
+use Rattle.iom_reach.specs.Scene.{Message, Question, Answer, Mapping}
 use Rattle.iom_hardware_session.specs.Timely.{IsBy, IsTimelyMessage}
 
 -- a message that is among those of a scene stands on a link

@@ -1,5 +1,5 @@
 -- Claims that are watched: one after another is judged, and what they claim stays.
-use Rattle.std.proofs.Common.{◌≡◌, ◌∙◌, ◌⊎◌, inl, inr, ℕ, zero, suc, ◌+◌, ◌<◌, List, [], ◌∷◌, length, slice_get, slice_set, Option, None, Some, subst, refl, sym, ap, arith}
+use Rattle.std.proofs.Common.{◌≡◌, ◌∙◌, ◌⊎◌, inl, inr, ℕ, zero, suc, ◌+◌, ◌<◌, List, [], ◌∷◌, length, slice_get, slice_set, Option, Some, subst, refl, sym, ap, arith}
 use Rattle.std.proofs.lemmas.Bool.Decides.{eqb_tells}
 use Rattle.std.proofs.lemmas.Option.{slice_get_within}
 use Rattle.iom_claims.specs.Claimed.{Claimed, IsOpen}
@@ -8,7 +8,6 @@ use Rattle.iom_board.specs.declared.board.Board.{Board}
 use Rattle.iom_hardware_session.specs.declared.answer.ClaimAnswer.{ClaimAnswer}
 use Rattle.iom_hardware_session.specs.declared.answer.ClaimAnswer.TheVariants as found
 use Rattle.iom_hardware_session.specs.declared.answer.Wrong.{Wrong}
-use Rattle.iom_hardware_session.specs.declared.watched.GoodClaim.{GoodClaim}
 use Rattle.iom_hardware_session.specs.declared.watched.GoodClaim.TheVariants as good
 use Rattle.iom_hardware_session.specs.declared.watched.Watched.{Watched}
 use Rattle.iom_hardware_session.specs.Watching.{claims_of, with_claim, with_if_good, IsVerdictOf, AreJudgedAgain, WatchesDone}

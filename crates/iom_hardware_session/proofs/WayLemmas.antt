@@ -1,9 +1,8 @@
 -- What is found of a claim, by what the survey and the rows of claims answer.
-use Rattle.std.proofs.Common.{◌≡◌, ◌==◌, ◌<◌, ◌∙◌, ◌⊎◌, inl, inr, ℕ, zero, suc, Bool, true, false, List, [], ◌∷◌, map, find, length, slice_get, Contains, Option, None, Some, option_map, refl, sym, ap, subst, arith}
+use Rattle.std.proofs.Common.{◌≡◌, ◌==◌, ◌∙◌, ◌⊎◌, inl, inr, ℕ, suc, Bool, true, false, List, [], ◌∷◌, slice_get, Contains, Option, None, Some, option_map, refl, sym, ap, subst, arith}
 use Rattle.std.proofs.lemmas.Bool.Decides.{eqb_tells}
 use Rattle.iom_base.specs.declared.access.AccessKind.{AccessKind}
 use Rattle.iom_base.specs.declared.access.AccessKind.TheVariants.{Read, Write}
-use Rattle.iom_base.specs.declared.device_kind.DeviceKind.{DeviceKind}
 use Rattle.iom_device.specs.Caches.{device_with, kind_in}
 use Rattle.iom_device.specs.declared.device.Device.{Device}
 use Rattle.iom_board.specs.BoardParts.{BoardParts}
@@ -11,7 +10,7 @@ use Rattle.iom_board.specs.Invariant.{BoardInvariant, flight_ids, device_ids}
 use Rattle.iom_hardware_ways.specs.Scenes.{ats_kind, flights_in, scene_of}
 use Rattle.iom_inflight.specs.Flights.{FlightRow, row_of}
 use Rattle.iom_iommu.specs.Parts.{flights_of}
-use Rattle.iom_reach.specs.Scene.{AtsKind, PendingAccess, HasDevice}
+use Rattle.iom_reach.specs.Scene.{AtsKind, PendingAccess}
 use Rattle.iom_reach.specs.Ways.{Way, Accepted, AnyFrame, ByContext, OnTheWalk}
 
 -- what holds of reads and of writes holds of each kind of access

@@ -9,6 +9,7 @@ use Rattle.iom_board.specs.declared.board.Board.{Board}
 use Rattle.iom_hardware_script.specs.declared.script.Claim.{Claim as Said}
 use Rattle.iom_hardware_script.specs.declared.script.Claim.TheVariants as claim
 use Rattle.iom_hardware_session.specs.declared.state.Session.{Session}
+use Rattle.iom_hardware_session.specs.Ready.{IsReady}
 use Rattle.iom_hardware_ways.specs.Scenes.{scene_of}
 use Rattle.iom_ledger.specs.History.{May}
 use Rattle.iom_reach.specs.Laws.{IsOutOfReach}
@@ -42,13 +43,21 @@ IsUnused scene frame = ¬ IsRead scene frame × ¬ Contains scene.fault_frames f
 abbrev pub HasClaimedWaysAlone : HardwareScene → Claimed → (device frame : ℕ) → Type 0
 HasClaimedWaysAlone scene claimed device frame = (kind : AccessKind) → Way scene device frame kind → May claimed.history device frame kind
 
--- WHAT A GOOD CLAIM MEANS, by what was claimed before it and after it
-abbrev pub GoodMeans : Said → HardwareScene → Claimed → Claimed → Type 0
-GoodMeans (claim.Done number) scene before after =
+-- that no way of the device to the frame is left but those that are claimed
+abbrev pub DoneIsGood : HardwareScene → Claimed → Claimed → ℕ → Type 0
+DoneIsGood scene before after number =
     IsCertain scene × ((grant : Grant) → IsOpen before.history (record { number = number; grant = grant }) → HasClaimedWaysAlone scene after grant.device grant.frame)
-GoodMeans (claim.HandOff frame) scene before after = IsCertain scene × IsNobodys before frame × IsOutOfReach scene frame × IsUnused scene frame
-GoodMeans (claim.Take frame) scene before after = IsNobodys before frame
-GoodMeans (claim.Grant device page frame rights) scene before after = IsUnused scene frame
-GoodMeans (claim.Ready device page) scene before after = ⊤
-GoodMeans (claim.Release device page) scene before after = ⊤
-GoodMeans (claim.Trust device) scene before after = ⊤
+
+-- that nobody uses the frame
+abbrev pub HandOffIsGood : HardwareScene → Claimed → ℕ → Type 0
+HandOffIsGood scene before frame = IsCertain scene × IsNobodys before frame × IsOutOfReach scene frame × IsUnused scene frame
+
+-- WHAT A GOOD CLAIM MEANS, as hardware stands with these devices trusted, by what was claimed before it and after it
+abbrev pub GoodMeans : Said → Board → List ℕ → Claimed → Claimed → Type 0
+GoodMeans (claim.Done number) hardware trusted before after = DoneIsGood (scene_with hardware trusted) before after number
+GoodMeans (claim.HandOff frame) hardware trusted before after = HandOffIsGood (scene_with hardware trusted) before frame
+GoodMeans (claim.Take frame) hardware trusted before after = IsNobodys before frame
+GoodMeans (claim.Grant device page frame rights) hardware trusted before after = IsUnused (scene_with hardware trusted) frame
+GoodMeans (claim.Ready device page) hardware trusted before after = IsReady hardware before device page
+GoodMeans (claim.Release device page) hardware trusted before after = ⊤
+GoodMeans (claim.Trust device) hardware trusted before after = ⊤

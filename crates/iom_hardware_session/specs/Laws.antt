@@ -7,7 +7,7 @@ use Rattle.iom_hardware_script.specs.declared.script.Claim.TheVariants as claim
 use Rattle.iom_hardware_session.specs.declared.state.Session.{Session}
 use Rattle.iom_hardware_session.specs.declared.watched.GoodClaim.{GoodClaim}
 use Rattle.iom_hardware_session.specs.declared.watched.GoodClaim.TheVariants as good
-use Rattle.iom_hardware_session.specs.Good.{scene_in, GoodMeans}
+use Rattle.iom_hardware_session.specs.Good.{GoodMeans}
 use Rattle.iom_hardware_session.specs.Watching.{IsVerdictOf}
 use Rattle.iom_hardware_ways.specs.Calls.{HardwareCall, DoInTurn}
 use Rattle.iom_hardware_ways.specs.Laws.{MakesIn}
@@ -27,13 +27,13 @@ ComesToMake session calls id made = ComesFromParts (is_id_among session.trusted.
 -- WHAT WAS WITHDRAWN IS OUT OF REACH. After a claim is done and good, the device makes no access to that frame but those that what is claimed allows
 abbrev pub DoneStaysDone : Type 0
 DoneStaysDone = (session : Session) (before : Claimed) (number : ℕ) (grant : Grant) (calls : List HardwareCall) (made : MadeAt)
-    → GoodMeans (claim.Done number) (scene_in session) before (after_done number before) → IsOpen before.history (record { number = number; grant = grant })
+    → GoodMeans (claim.Done number) session.hardware.board session.trusted.items before (after_done number before) → IsOpen before.history (record { number = number; grant = grant })
     → made.frame ≡ grant.frame → ComesToMake session calls grant.device made → May (after_done number before).history grant.device made.frame made.kind
 
 -- NOBODY TOUCHES A FRAME THAT WAS HANDED OFF and good: no device makes any access there
 abbrev pub HandedOffStaysFree : Type 0
 HandedOffStaysFree = (session : Session) (before after : Claimed) (frame id : ℕ) (calls : List HardwareCall) (made : MadeAt)
-    → GoodMeans (claim.HandOff frame) (scene_in session) before after → made.frame ≡ frame → ¬ ComesToMake session calls id made
+    → GoodMeans (claim.HandOff frame) session.hardware.board session.trusted.items before after → made.frame ≡ frame → ¬ ComesToMake session calls id made
 
 -- so of a claim that is watched and good still
 abbrev pub HoldsOn : GoodClaim → Session → Claimed → Type 0

@@ -5,6 +5,7 @@ pub mod Events
 pub mod Claiming
 pub mod Admitted
 pub mod Timely
+pub mod Ready
 pub mod Good
 pub mod Wrong
 pub mod Watching

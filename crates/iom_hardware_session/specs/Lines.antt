@@ -26,7 +26,6 @@ use Rattle.iom_hardware_session.specs.Shown.{ShownHardware}
 use Rattle.iom_hardware_session.specs.Watching.{still_good, AreJudgedAgain, WatchesClaim}
 use Rattle.iom_hardware_session.specs.declared.watched.Watched.{Watched}
 use Rattle.iom_hardware_session.specs.Wrong.{WrongMeans, IfWrong}
-use Rattle.iom_reach.specs.Scene.{HardwareScene}
 use Rattle.iom_inflight.specs.declared.made.MadeAt.{MadeAt}
 use Rattle.iom_iommu.specs.Parts.{registers_of, after_write}
 use Rattle.iom_ledger.specs.History.{May}
@@ -133,13 +132,13 @@ TrustsBy (line.Claim said) answer old new = TrustsWhere said (judgement_in answe
 TrustsBy said answer old new = new ≡ old
 
 -- what a claim that is answered well means
-abbrev pub IsGoodWhere : Said → Option ClaimAnswer → HardwareScene → Claimed → Type 0
-IsGoodWhere said None scene before = ⊤
-IsGoodWhere said (Some answer) scene before = answer ≡ found.Good → GoodMeans said scene before (claimed_after said answer before)
+abbrev pub IsGoodWhere : Said → Option ClaimAnswer → Board → List ℕ → Claimed → Type 0
+IsGoodWhere said None hardware trusted before = ⊤
+IsGoodWhere said (Some answer) hardware trusted before = answer ≡ found.Good → GoodMeans said hardware trusted before (claimed_after said answer before)
 
-abbrev pub IsGoodLine : HardwareLine → Answer → HardwareScene → Claimed → Type 0
-IsGoodLine (line.Claim said) answer scene before = IsGoodWhere said (judgement_in answer) scene before
-IsGoodLine said answer scene before = ⊤
+abbrev pub IsGoodLine : HardwareLine → Answer → Board → List ℕ → Claimed → Type 0
+IsGoodLine (line.Claim said) answer hardware trusted before = IsGoodWhere said (judgement_in answer) hardware trusted before
+IsGoodLine said answer hardware trusted before = ⊤
 
 -- what a claim that is answered so means, where it isn't true
 abbrev pub IsWrongWhere : Said → Option ClaimAnswer → Board → List ℕ → Claimed → Type 0

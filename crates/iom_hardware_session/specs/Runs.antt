@@ -12,7 +12,6 @@ use Rattle.iom_hardware_session.specs.declared.answer.ClaimAnswer.TheVariants as
 use Rattle.iom_hardware_session.specs.declared.session.Stepped.{Stepped}
 use Rattle.iom_hardware_session.specs.declared.state.Session.{Session}
 use Rattle.iom_hardware_session.specs.declared.watched.Watched.{Watched}
-use Rattle.iom_hardware_session.specs.Good.{scene_in}
 use Rattle.iom_hardware_session.specs.Shown.{shown_in}
 use Rattle.iom_program_disks.specs.Disks.{program_disks}
 use Rattle.iom_virtio_blk.specs.MemoryDisks.{disk_state}
@@ -34,7 +33,7 @@ pub record LineGoesOn (old : Session) (before : Claimed) (reply : LineReply) (ne
   pub claimed : ShowsClaimed new.claims (claimed_then reply before)
   pub trusted : TrustsBy reply.said reply.stepped.answer old.trusted.items new.trusted.items
   pub admitted : IsAdmittedLine reply.said reply.stepped.answer old.hardware.board before
-  pub good : IsGoodLine reply.said reply.stepped.answer (scene_in new) before
+  pub good : IsGoodLine reply.said reply.stepped.answer new.hardware.board new.trusted.items before
   pub wrong : IsWrongLine reply.said reply.stepped.answer new.hardware.board new.trusted.items before
   pub again : WatchesBy reply.said reply.stepped.answer before old new
   pub violated : IsTrue reply.stepped.violated ↔ IsViolation before (made_by reply.stepped.answer)

@@ -14,6 +14,7 @@ use Rattle.iom_hardware_session.specs.declared.answer.ClaimAnswer.TheVariants as
 use Rattle.iom_hardware_session.specs.declared.answer.Wrong.{Wrong}
 use Rattle.iom_hardware_session.specs.declared.answer.Wrong.TheVariants as wrong
 use Rattle.iom_hardware_session.specs.Good.{scene_with}
+use Rattle.iom_hardware_session.specs.Ready.{ReadyIsWrong}
 use Rattle.iom_hardware_session.specs.Timely.{IsTimelyMessage}
 use Rattle.iom_ledger.specs.History.{May}
 use Rattle.iom_reach.specs.Scene.{HardwareScene}
@@ -79,15 +80,14 @@ GrantIsWrong wrong.Lingers hardware trusted frame = ⊥
 GrantIsWrong (wrong.Reached own kind) hardware trusted frame = ⊥
 GrantIsWrong (wrong.NotReady found) hardware trusted frame = ⊥
 
--- WHAT A WRONG CLAIM MEANS, as hardware stands with these devices trusted, by what was claimed before it and after it. What a request finds instead is
--- tested only
+-- WHAT A WRONG CLAIM MEANS, as hardware stands with these devices trusted, by what was claimed before it and after it
 abbrev pub WrongMeans : Said → Wrong → Board → List ℕ → Claimed → Claimed → Type 0
 WrongMeans (claim.Done number) why hardware trusted before after =
     (grant : Grant) × IsOpen before.history (record { number = number; grant = grant }) × DoneIsWrong why hardware trusted after grant.device grant.frame
 WrongMeans (claim.HandOff frame) why hardware trusted before after = HandOffIsWrong why hardware trusted before frame
 WrongMeans (claim.Take frame) why hardware trusted before after = TakeIsWrong why before frame
 WrongMeans (claim.Grant device page frame rights) why hardware trusted before after = GrantIsWrong why hardware trusted frame
-WrongMeans (claim.Ready device page) why hardware trusted before after = ⊤
+WrongMeans (claim.Ready device page) why hardware trusted before after = ReadyIsWrong why hardware before device page
 WrongMeans (claim.Release device page) why hardware trusted before after = ⊥
 WrongMeans (claim.Trust device) why hardware trusted before after = ⊥
 

@@ -6,12 +6,14 @@ ghost use Rattle.iom_hardware_script.specs.declared.script.Claim.{Claim as Said}
 ghost use Rattle.iom_hardware_script.specs.declared.script.Claim.TheVariants as said;
 ghost use Rattle.iom_hardware_session.specs.Admitted.{IsDeviceKnown, ClaimIsAdmitted, GrantIsRefused, FrameIsRefused};
 ghost use Rattle.iom_hardware_session.specs.Claiming.{claimed_after};
-ghost use Rattle.iom_hardware_session.specs.Good.{GoodMeans, scene_in};
+ghost use Rattle.iom_hardware_session.specs.Good.{GoodMeans};
+ghost use Rattle.iom_hardware_session.specs.Ready.{IsReady, ReadyIsWrong};
 ghost use Rattle.iom_hardware_session.specs.Lines.{KeepsHardware, KeepsAll, TrustsAlso};
 ghost use Rattle.iom_hardware_session.specs.Watching.{WatchesClaim};
 ghost use Rattle.iom_hardware_session.specs.Wrong.{IfWrong, WrongMeans};
 
 use crate::answer::{ClaimAnswer, Wrong};
+use crate::ready::unreadiness;
 use crate::state::Session;
 use crate::watched::{GoodClaim, drop_hand_off, watch};
 use iom_base::{DeviceId, GrantRights, Refusal};
@@ -71,7 +73,7 @@ impl Session {
         ensures claimed { (c : Claimed) → ShowsClaimed self.old.claims c
             → ShowsClaimed self.new.claims (claimed_after (said.Grant device page frame rights) result c) }
         ensures good { (c : Claimed) → ShowsClaimed self.old.claims c → result ≡ ClaimAnswer.Good
-            → GoodMeans (said.Grant device page frame rights) (scene_in self.new) c (claimed_after (said.Grant device page frame rights) result c) }
+            → GoodMeans (said.Grant device page frame rights) self.new.hardware.board self.new.trusted.items c (claimed_after (said.Grant device page frame rights) result c) }
         ensures wrong { (c : Claimed) → ShowsClaimed self.old.claims c
             → IfWrong result
             (λ why. WrongMeans (said.Grant device page frame rights) why self.new.hardware.board self.new.trusted.items c
@@ -127,7 +129,7 @@ impl Session {
         ensures claimed { (c : Claimed) → ShowsClaimed self.old.claims c
             → ShowsClaimed self.new.claims (claimed_after (said.Done number) result c) }
         ensures good { (c : Claimed) → ShowsClaimed self.old.claims c → result ≡ ClaimAnswer.Good
-            → GoodMeans (said.Done number) (scene_in self.new) c (claimed_after (said.Done number) result c) }
+            → GoodMeans (said.Done number) self.new.hardware.board self.new.trusted.items c (claimed_after (said.Done number) result c) }
         ensures wrong { (c : Claimed) → ShowsClaimed self.old.claims c
             → IfWrong result
             (λ why. WrongMeans (said.Done number) why self.new.hardware.board self.new.trusted.items c (claimed_after (said.Done number) result c)) }
@@ -166,7 +168,7 @@ impl Session {
         ensures claimed { (c : Claimed) → ShowsClaimed self.old.claims c
             → ShowsClaimed self.new.claims (claimed_after (said.HandOff frame) result c) }
         ensures good { (c : Claimed) → ShowsClaimed self.old.claims c → result ≡ ClaimAnswer.Good
-            → GoodMeans (said.HandOff frame) (scene_in self.new) c (claimed_after (said.HandOff frame) result c) }
+            → GoodMeans (said.HandOff frame) self.new.hardware.board self.new.trusted.items c (claimed_after (said.HandOff frame) result c) }
         ensures wrong { (c : Claimed) → ShowsClaimed self.old.claims c
             → IfWrong result
             (λ why. WrongMeans (said.HandOff frame) why self.new.hardware.board self.new.trusted.items c (claimed_after (said.HandOff frame) result c)) }
@@ -206,7 +208,7 @@ impl Session {
         ensures claimed { (c : Claimed) → ShowsClaimed self.old.claims c
             → ShowsClaimed self.new.claims (claimed_after (said.Take frame) result c) }
         ensures good { (c : Claimed) → ShowsClaimed self.old.claims c → result ≡ ClaimAnswer.Good
-            → GoodMeans (said.Take frame) (scene_in self.new) c (claimed_after (said.Take frame) result c) }
+            → GoodMeans (said.Take frame) self.new.hardware.board self.new.trusted.items c (claimed_after (said.Take frame) result c) }
         ensures wrong { (c : Claimed) → ShowsClaimed self.old.claims c
             → IfWrong result
             (λ why. WrongMeans (said.Take frame) why self.new.hardware.board self.new.trusted.items c (claimed_after (said.Take frame) result c)) }
@@ -230,6 +232,9 @@ impl Session {
 
     /// A request of the device at the page is accepted now, on what it holds there.
     pub(crate) fn claim_ready(&mut self, device: DeviceId, page: u64) -> ClaimAnswer
+        ensures good { (c : Claimed) → ShowsClaimed self.old.claims c → result ≡ ClaimAnswer.Good → IsReady self.new.hardware.board c device page }
+        ensures wrong { (c : Claimed) → ShowsClaimed self.old.claims c
+            → IfWrong result (λ why. ReadyIsWrong why self.new.hardware.board c device page) }
         ensures admitted { (c : Claimed) → ShowsClaimed self.old.claims c → ClaimIsAdmitted (said.Ready device page) result self.old.hardware.board c }
         ensures rest { KeepsAll self.old self.new }
     {
@@ -239,7 +244,7 @@ impl Session {
         let Some((frame, rights)) = self.claims.held_at(device, page) else {
             return ClaimAnswer::Refused(Refusal::NotGranted);
         };
-        match self.unreadiness(device, page, frame, rights) {
+        match unreadiness(&self.hardware.board, device, page, frame, rights) {
             Some(why) => ClaimAnswer::Wrong(why),
             None => ClaimAnswer::Good,
         }

@@ -1,21 +1,98 @@
 // Whether a request of a device would be accepted now (IOMMU specification, section 2.3), found without a trace.
+ghost use Rattle.std.specs.Prelude.{◌≡◌, ◌≢◌, true, false, ℕ, option_map, Some, IfSome, IfNone};
+ghost use Rattle.iom_base.specs.Rights.{allows};
+ghost use Rattle.iom_board.specs.BoardParts.{board_parts};
+ghost use Rattle.iom_hardware_session.specs.Ready.{address_of, context_found, found_by_walk, looked_space, ContextFinds, FindsFrame, FindsInstead, FirstFinds, IsUnready, RequestFinds, StagesFind};
+ghost use Rattle.iom_iommu.specs.Service.{cached_for};
+ghost use Rattle.iom_tlb.specs.Ways.{content_of_sets};
+ghost use Rattle.iom_tlb.specs.declared.cached_page.CachedPage.{CachedPage};
+ghost use Rattle.iom_tlb.specs.declared.trans_cache.Translation.{Translation};
+ghost use Rattle.iom_way_survey.specs.Found.{cached_found, found_of, has_directory, stored_found};
+
 use crate::answer::{Found, Wrong};
-use crate::state::Session;
-use iom_base::{AccessKind, DeviceId, PAGE_SIZE, Rights};
+use iom_base::{AccessKind, Cause, DeviceId, PAGE_SIZE, Rights};
+use iom_board::Board;
 use iom_device_dir::{Context, FirstStage, SecondStage, fits_directory, locate};
+use iom_phys_mem::Memory;
 use iom_registers::{DirectoryMode, DirectoryPointer};
 use iom_stage_walk::{WalkFault, Walked, walk_first, walk_second};
-use iom_tlb::Space;
+use iom_tlb::{CachedPage, Ioatc, PLACES, Space};
 
-/// Ways of a set of the IOMMU's cache of translations.
-const WAYS: usize = 8;
+impl Found {
+    /// A walk that ended so.
+    fn of(ended: Result<Walked, WalkFault>) -> Found
+        ensures { result ≡ found_by_walk ended }
+    {
+        match ended {
+            Ok(walked) => Found::by_walk(u64::from(walked.frame)),
+            Err(fault) => Found::Fault(fault.cause),
+        }
+    }
+}
 
-/// Sets of it. A page is in the set of its number modulo this.
-const SETS: u64 = 64;
+/// Whether there is a directory in this mode.
+fn has_directory(mode: DirectoryMode) -> bool
+    ensures { result ≡ has_directory mode }
+{
+    match mode {
+        DirectoryMode::Off | DirectoryMode::Bare => false,
+        DirectoryMode::OneLevel | DirectoryMode::TwoLevels | DirectoryMode::ThreeLevels => true,
+    }
+}
+
+/// The context that is cached for the device, where a request finds it.
+fn cached_context(hardware: &Board, device: DeviceId) -> Option<Context>
+    ensures { result ≡ cached_found (board_parts hardware.now) device }
+{
+    let mode = hardware.iommu.registers().directory_mode();
+    if has_directory(mode) && fits_directory(mode, device) {
+        return hardware.iommu.cached_context(device);
+    }
+    None
+}
+
+/// The context, where one was located.
+fn located(answer: Result<Context, Cause>) -> Option<Context>
+    ensures { result ≡ found_of answer }
+{
+    match answer {
+        Ok(context) => Some(context),
+        Err(_) => None,
+    }
+}
+
+/// The context that the directory has for the device.
+#[tactic(auto, unfolding(iom_device_dir::specs::Located::located_by_mode))]
+fn stored_context(hardware: &Board, device: DeviceId) -> Option<Context>
+    ensures { result ≡ stored_found (board_parts hardware.now) device }
+{
+    let registers = hardware.iommu.registers();
+    let mode = registers.directory_mode();
+    if !has_directory(mode) {
+        return None;
+    }
+    let pointer = DirectoryPointer {
+        mode,
+        ppn: registers.directory_root(),
+    };
+    located(locate(&hardware.memory, pointer, device))
+}
+
+/// The context that a request of the device finds: the cached one, or the one in memory.
+fn context_of(hardware: &Board, device: DeviceId) -> Option<Context>
+    ensures { result ≡ context_found (board_parts hardware.now) device }
+{
+    match cached_context(hardware, device) {
+        Some(context) => Some(context),
+        None => stored_context(hardware, device),
+    }
+}
 
 /// The address space in which a page is looked up that the context's device was granted. None where no stage translates; nor in both
 /// stages: there the page is a guest physical one, and the cache goes by pages of the guest's own addresses.
-fn space_of(context: &Context) -> Option<Space> {
+fn space_of(context: &Context) -> Option<Space>
+    ensures { result ≡ looked_space context.now.first_stage context.now.second_stage context.now }
+{
     let pscid = context.pscid.number();
     let gscid = context.gscid;
     match (context.first_stage, context.second_stage) {
@@ -26,114 +103,153 @@ fn space_of(context: &Context) -> Option<Space> {
     }
 }
 
-impl Found {
-    /// A walk that ended so.
-    fn of(ended: Result<Walked, WalkFault>) -> Found {
-        match ended {
-            Ok(walked) => Found::by_walk(u64::from(walked.frame)),
-            Err(fault) => Found::Fault(fault.cause),
+/// The address of a page. No page that is granted is so high that it has none.
+fn address_of(page: u64) -> u64
+    ensures { result ≡ address_of page }
+{
+    page.saturating_mul(PAGE_SIZE)
+}
+
+/// What a request finds by a first stage; where that is Bare the page is that of memory.
+fn first_finds(memory: &Memory, stage: FirstStage, page: u64, kind: AccessKind) -> Found
+    ensures { FirstFinds memory.now stage page kind result }
+{
+    match stage {
+        FirstStage::Bare => Found::by_walk(page),
+        FirstStage::Tables { size, root } => {
+            Found::of(walk_first(memory, size, root.number(), address_of(page), kind))
         }
     }
 }
 
-impl Session {
-    /// The context that a request of the device finds: the cached one, or the one in memory.
-    fn context_of(&self, device: DeviceId, pointer: DirectoryPointer) -> Option<Context> {
-        if !fits_directory(pointer.mode, device) {
-            return None;
-        }
-        match pointer.mode {
-            // No request is served by a context, whatever is cached.
-            DirectoryMode::Off | DirectoryMode::Bare => None,
-            _ => match self.hardware.board.iommu.cached_context(device) {
-                Some(context) => Some(context),
-                None => locate(&self.hardware.board.memory, pointer, device).ok(),
-            },
+/// What it finds by the walk of the context's stages. In both stages the page is a guest physical one, and the second stage alone is
+/// walked.
+fn stages_find(memory: &Memory, context: &Context, page: u64, kind: AccessKind) -> Found
+    ensures { StagesFind memory.now context.now.first_stage context.now.second_stage page kind result }
+{
+    match context.second_stage {
+        SecondStage::Bare => first_finds(memory, context.first_stage, page, kind),
+        SecondStage::Tables { size, root } => {
+            Found::of(walk_second(memory, size, root.number(), address_of(page), kind))
         }
     }
+}
 
-    /// The frame that is cached for the page, with a right that allows the access.
-    fn cached_frame(&self, space: Space, page: u64, kind: AccessKind) -> Option<u32> {
-        let first = (page % SETS) as usize * WAYS;
-        for place in first..first + WAYS {
-            if let Some(cached) = self.hardware.board.iommu.translations().page_at(place) {
-                let translation = cached.translation;
-                if cached.space == space && cached.page == page && translation.rights.allows(kind) {
-                    return Some(translation.frame);
-                }
-            }
-        }
-        None
+/// The frame of what stands at a place of the cache, where that is of the page, and its right allows the access.
+fn frame_served(
+    cached: Option<CachedPage>,
+    space: Space,
+    page: u64,
+    kind: AccessKind,
+) -> Option<u32>
+    ensures some { IfSome result (λ frame. (own : CachedPage) × (cached ≡ Some own) × (own.space ≡ space) × (own.page ≡ page)
+        × (allows own.translation.rights kind ≡ true) × (frame ≡ own.translation.frame)) }
+    ensures none { IfNone result ((own : CachedPage) → cached ≡ Some own → own.space ≡ space → own.page ≡ page
+        → allows own.translation.rights kind ≡ false) }
+{
+    let own = cached?;
+    if own.space == space && own.page == page && own.translation.rights.allows(kind) {
+        return Some(own.translation.frame);
     }
+    None
+}
 
-    /// Where the walk of the context's stages ends. In both stages the page is a guest physical one, and the second stage
-    /// alone is walked.
-    fn walk(&self, context: &Context, address: u64, kind: AccessKind) -> Found {
-        let memory = &self.hardware.board.memory;
-        if let SecondStage::Tables { size, root } = context.second_stage {
-            return Found::of(walk_second(memory, size, root.number(), address, kind));
-        }
-        match context.first_stage {
-            FirstStage::Bare => Found::by_walk(address / PAGE_SIZE),
-            FirstStage::Tables { size, root } => {
-                Found::of(walk_first(memory, size, root.number(), address, kind))
-            }
+/// The frame that is cached for the page, with a right that allows the access.
+fn cached_frame(cache: &Ioatc, space: Space, page: u64, kind: AccessKind) -> Option<u32>
+    ensures { result ≡ option_map (λ (t : Translation). t.frame) (cached_for (content_of_sets cache.now (space, page)) kind) }
+{
+    cache.facts();
+    for place in 0..PLACES {
+        if let Some(frame) = frame_served(cache.page_at(place), space, page, kind) {
+            return Some(frame);
         }
     }
+    None
+}
 
-    /// What a request of the device for an access of the kind at the page finds now.
-    pub(crate) fn found_at(&self, device: DeviceId, page: u64, kind: AccessKind) -> Found {
-        let registers = self.hardware.board.iommu.registers();
-        let mode = registers.directory_mode();
-        if mode == DirectoryMode::Bare {
-            return Found::by_walk(page);
+/// What it finds by the device's context: what is cached in the address space of its one stage, or else what the walk does.
+fn context_finds(hardware: &Board, found: Option<Context>, page: u64, kind: AccessKind) -> Found
+    ensures { ContextFinds (board_parts hardware.now) found page kind result }
+{
+    let Some(context) = found else {
+        return Found::NoContext;
+    };
+    if let Some(space) = space_of(&context) {
+        if let Some(frame) = cached_frame(hardware.iommu.translations(), space, page, kind) {
+            return Found::Cached { space, frame };
         }
-        let pointer = DirectoryPointer {
-            mode,
-            ppn: registers.directory_root(),
-        };
-        let Some(context) = self.context_of(device, pointer) else {
-            return Found::NoContext;
-        };
-        if let Some(space) = space_of(&context) {
-            if let Some(frame) = self.cached_frame(space, page, kind) {
-                return Found::Cached { space, frame };
-            }
-        }
-        self.walk(&context, page.saturating_mul(PAGE_SIZE), kind)
     }
+    stages_find(&hardware.memory, &context, page, kind)
+}
 
-    /// What a request of the device for an access of the kind at the page finds now, where that isn't the frame.
-    fn found_instead(
-        &self,
-        device: DeviceId,
-        page: u64,
-        frame: u32,
-        kind: AccessKind,
-    ) -> Option<Wrong> {
-        let found = self.found_at(device, page, kind);
-        if found.frame() == Some(u64::from(frame)) {
-            None
-        } else {
-            Some(Wrong::NotReady(found))
+/// What a request of the device for an access of the kind at the page finds now.
+fn request_finds(hardware: &Board, device: DeviceId, page: u64, kind: AccessKind) -> Found
+    ensures { RequestFinds (board_parts hardware.now) device page kind result }
+{
+    match hardware.iommu.registers().directory_mode() {
+        DirectoryMode::Bare => Found::by_walk(page),
+        DirectoryMode::Off
+        | DirectoryMode::OneLevel
+        | DirectoryMode::TwoLevels
+        | DirectoryMode::ThreeLevels => {
+            context_finds(hardware, context_of(hardware, device), page, kind)
         }
     }
+}
 
-    /// What a request at the page finds, where it isn't the frame with the right: a read, and then a write, where the right
-    /// has it.
-    pub(crate) fn unreadiness(
-        &self,
-        device: DeviceId,
-        page: u64,
-        frame: u32,
-        rights: Rights,
-    ) -> Option<Wrong> {
-        if let Some(why) = self.found_instead(device, page, frame, AccessKind::Read) {
-            return Some(why);
-        }
-        if rights.allows(AccessKind::Write) {
-            return self.found_instead(device, page, frame, AccessKind::Write);
-        }
-        None
+/// What it finds where that isn't the frame.
+fn found_instead(
+    hardware: &Board,
+    device: DeviceId,
+    page: u64,
+    frame: u32,
+    kind: AccessKind,
+) -> Option<Found>
+    ensures some { IfSome result (FindsInstead (board_parts hardware.now) device page frame kind) }
+    ensures none { IfNone result (FindsFrame (board_parts hardware.now) device page frame kind) }
+{
+    let found = request_finds(hardware, device, page, kind);
+    if found.frame() == Some(u64::from(frame)) {
+        return None;
     }
+    Some(found)
+}
+
+/// What it finds where that isn't the frame, though the right allows the access.
+fn found_against(
+    hardware: &Board,
+    device: DeviceId,
+    page: u64,
+    frame: u32,
+    rights: Rights,
+    kind: AccessKind,
+) -> Option<Found>
+    ensures some { IfSome result (λ found. (allows rights kind ≡ true) × FindsInstead (board_parts hardware.now) device page frame kind found) }
+    ensures none { IfNone result (allows rights kind ≡ true → FindsFrame (board_parts hardware.now) device page frame kind) }
+{
+    if !rights.allows(kind) {
+        return None;
+    }
+    found_instead(hardware, device, page, frame, kind)
+}
+
+/// What a request at the page finds, where it isn't the frame with the right: a read, and then a write, as far as the right allows
+/// them.
+pub(crate) fn unreadiness(
+    hardware: &Board,
+    device: DeviceId,
+    page: u64,
+    frame: u32,
+    rights: Rights,
+) -> Option<Wrong>
+    ensures some { IfSome result (IsUnready (board_parts hardware.now) device page frame rights) }
+    ensures none { IfNone result ((kind : AccessKind) → allows rights kind ≡ true → FindsFrame (board_parts hardware.now) device page frame kind) }
+{
+    if let Some(found) = found_against(hardware, device, page, frame, rights, AccessKind::Read) {
+        return Some(Wrong::NotReady(found));
+    }
+    if let Some(found) = found_against(hardware, device, page, frame, rights, AccessKind::Write) {
+        return Some(Wrong::NotReady(found));
+    }
+    None
 }

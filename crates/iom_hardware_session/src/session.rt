@@ -9,7 +9,7 @@ ghost use Rattle.iom_hardware_session.specs.Admitted.{ClaimIsAdmitted};
 ghost use Rattle.iom_hardware_session.specs.Claiming.{claimed_after};
 ghost use Rattle.iom_hardware_session.specs.Answered.{judgement_in};
 ghost use Rattle.iom_hardware_session.specs.Runs.{is_wrong_claim, has_fallen, is_wrong_by};
-ghost use Rattle.iom_hardware_session.specs.Good.{GoodMeans, scene_in};
+ghost use Rattle.iom_hardware_session.specs.Good.{GoodMeans};
 ghost use Rattle.iom_hardware_session.specs.Shown.{shown_in};
 ghost use Rattle.iom_hardware_session.specs.Watching.{WatchesClaim};
 ghost use Rattle.iom_hardware_session.specs.Wrong.{IfWrong, WrongMeans};
@@ -98,7 +98,7 @@ impl Session {
     fn claim(&mut self, claim: Claim) -> ClaimAnswer
         ensures claimed { (c : Claimed) → ShowsClaimed self.old.claims c → ShowsClaimed self.new.claims (claimed_after claim result c) }
         ensures good { (c : Claimed) → ShowsClaimed self.old.claims c
-            → result ≡ ClaimAnswer.Good → GoodMeans claim (scene_in self.new) c (claimed_after claim result c) }
+            → result ≡ ClaimAnswer.Good → GoodMeans claim self.new.hardware.board self.new.trusted.items c (claimed_after claim result c) }
         ensures wrong { (c : Claimed) → ShowsClaimed self.old.claims c
             → IfWrong result (λ why. WrongMeans claim why self.new.hardware.board self.new.trusted.items c (claimed_after claim result c)) }
         ensures watched { (c : Claimed) → ShowsClaimed self.old.claims c
@@ -148,7 +148,7 @@ impl Session {
         ensures effect { LineEffect line.now result (shown_in self.old) (shown_in self.new) }
         ensures claimed { (c : Claimed) → ShowsClaimed self.old.claims c → ShowsClaimed self.new.claims (claimed_by line.now result c) }
         ensures trusted { TrustsBy line.now result self.old.trusted.items self.new.trusted.items }
-        ensures good { (c : Claimed) → ShowsClaimed self.old.claims c → IsGoodLine line.now result (scene_in self.new) c }
+        ensures good { (c : Claimed) → ShowsClaimed self.old.claims c → IsGoodLine line.now result self.new.hardware.board self.new.trusted.items c }
         ensures wrong { (c : Claimed) → ShowsClaimed self.old.claims c
             → IsWrongLine line.now result self.new.hardware.board self.new.trusted.items c }
         ensures admitted { (c : Claimed) → ShowsClaimed self.old.claims c → IsAdmittedLine line.now result self.old.hardware.board c }
@@ -177,7 +177,7 @@ impl Session {
         ensures claimed { (c : Claimed) → ShowsClaimed self.old.claims c
             → ShowsClaimed self.new.claims (claimed_by line.now result.answer c) }
         ensures trusted { TrustsBy line.now result.answer self.old.trusted.items self.new.trusted.items }
-        ensures good { (c : Claimed) → ShowsClaimed self.old.claims c → IsGoodLine line.now result.answer (scene_in self.new) c }
+        ensures good { (c : Claimed) → ShowsClaimed self.old.claims c → IsGoodLine line.now result.answer self.new.hardware.board self.new.trusted.items c }
         ensures wrong { (c : Claimed) → ShowsClaimed self.old.claims c
             → IsWrongLine line.now result.answer self.new.hardware.board self.new.trusted.items c }
         ensures admitted { (c : Claimed) → ShowsClaimed self.old.claims c → IsAdmittedLine line.now result.answer self.old.hardware.board c }

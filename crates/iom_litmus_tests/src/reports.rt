@@ -1,9 +1,10 @@
 use crate::mailbox::Mailbox;
-use iom_litmus::{Search, Watch};
+use iom_litmus::{Explored, Row, Search, Watch};
 use iom_litmus_reader::read;
 use iom_litmus_report::{answers_of, dot, report, script_of, telling_row};
+use iom_litmus_test::Test;
+use std::alloc::Global;
 use std::process::Abort;
-use std::test::Fail;
 
 const LOST: &[u8] = b"VIZKRUN mail
 \"A message may be lost\"
@@ -77,7 +78,7 @@ fn expect(rt: &impl Abort, holds: bool) {
 }
 
 /// Counts the places of which a search says that it goes on from them.
-#[derive(Drop)]
+#[derive(Default, Drop)]
 struct Counter {
     calls: usize,
     deepest: usize,
@@ -90,9 +91,48 @@ impl Watch for Counter {
     }
 }
 
+/// The report of what was explored is this.
+fn expect_report(
+    rt: &impl Abort,
+    alloc: Global,
+    test: &Test,
+    explored: &Explored<Mailbox>,
+    answer: &[u8],
+) {
+    let changing = explored.graph.changing();
+    let written = report(alloc, test, changing, &explored.histogram).expect(rt, "memory for it");
+    expect(rt, written.as_slice() == answer);
+}
+
+/// What was asked on the way to this row is the script, and is answered so.
+fn expect_script(rt: &impl Abort, search: &Search<Mailbox>, row: &Row) {
+    let script = script_of(search, row).expect(rt, "it can be run once more");
+    expect(rt, script.as_slice() == SCRIPT);
+    let answers = answers_of(search, row).expect(rt, "it can be run once more");
+    expect(rt, answers.as_slice() == b"sent\n\n".as_slice());
+}
+
+/// The picture of what was explored, with the way to this row, is the graph.
+fn expect_graph(
+    rt: &impl Abort,
+    alloc: Global,
+    test: &Test,
+    explored: &Explored<Mailbox>,
+    row: &Row,
+) {
+    let way = row.schedule.as_slice();
+    let graph = dot(alloc, test, &explored.graph, way).expect(rt, "memory for it");
+    expect(rt, graph.as_slice() == GRAPH);
+}
+
+/// What a search of the test comes to, of which this hears.
+fn explored(rt: &impl Abort, search: &Search<Mailbox>, watch: &mut Counter) -> Explored<Mailbox> {
+    search.explore(10, watch).expect(rt, "there are few places")
+}
+
 // A test from its file to its answer, the schedule of what was asked, and the graph of its places.
 #[test]
-fn a_test_is_answered(rt: HostRuntime) -> Result<(), Fail> {
+fn a_test_is_answered(rt: HostRuntime) {
     let alloc = rt.alloc();
     let test = read(alloc, LOST).expect(&rt, "it is a test");
     let search = Search::<Mailbox> {
@@ -100,31 +140,19 @@ fn a_test_is_answered(rt: HostRuntime) -> Result<(), Fail> {
         test: &test,
         opening: &(),
     };
-    let mut counter = Counter {
-        calls: 0,
-        deepest: 0,
-    };
-    let explored = search
-        .explore(10, &mut counter)
-        .expect(&rt, "there are two");
+    let mut counter = Counter::default();
+    let explored = explored(&rt, &search, &mut counter);
     expect(&rt, counter.calls == 5 && counter.deepest == 3);
-    let histogram = &explored.histogram;
-    expect(&rt, search.is_validated(histogram));
-    let answer = report(alloc, &test, explored.graph.changing(), histogram)?;
-    expect(&rt, answer.as_slice() == ANSWER);
-    let row = telling_row(&test, histogram.rows.as_slice()).expect(&rt, "one is stuck");
-    let script = script_of(&search, row).expect(&rt, "it can be run once more");
-    expect(&rt, script.as_slice() == SCRIPT);
-    let answers = answers_of(&search, row).expect(&rt, "it can be run once more");
-    expect(&rt, answers.as_slice() == b"sent\n\n".as_slice());
-    let graph = dot(alloc, &test, &explored.graph, row.schedule.as_slice())?;
-    expect(&rt, graph.as_slice() == GRAPH);
-    Ok(())
+    expect(&rt, search.is_validated(&explored.histogram));
+    expect_report(&rt, alloc, &test, &explored, ANSWER);
+    let row = telling_row(&test, explored.histogram.rows.as_slice()).expect(&rt, "one is stuck");
+    expect_script(&rt, &search, row);
+    expect_graph(&rt, alloc, &test, &explored, row);
 }
 
 // A line that does something though it isn't answered as awaited: the answer says so, once for all cells like it.
 #[test]
-fn a_try_that_changes_something_is_noted(rt: HostRuntime) -> Result<(), Fail> {
+fn a_try_that_changes_something_is_noted(rt: HostRuntime) {
     let alloc = rt.alloc();
     let test = read(alloc, CHANGING).expect(&rt, "it is a test");
     let search = Search::<Mailbox> {
@@ -132,9 +160,6 @@ fn a_try_that_changes_something_is_noted(rt: HostRuntime) -> Result<(), Fail> {
         test: &test,
         opening: &(),
     };
-    let explored = search.explore(10, &mut ()).expect(&rt, "there is one");
-    let changing = explored.graph.changing();
-    let answer = report(alloc, &test, changing, &explored.histogram)?;
-    expect(&rt, answer.as_slice() == NOTED);
-    Ok(())
+    let explored = explored(&rt, &search, &mut Counter::default());
+    expect_report(&rt, alloc, &test, &explored, NOTED);
 }

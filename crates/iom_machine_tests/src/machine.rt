@@ -496,13 +496,18 @@ fn runs_are_judged(rt: HostRuntime) {
     are_judged(&rt, rt.alloc(), &RUNS);
 }
 
+/// The line comes, and is lawful.
+fn comes(rt: &impl Abort, alloc: Global, kept: &mut KeptState, line: &Line) {
+    let (choice, access) = (&line.choice, &line.choice.access);
+    let step = judge(alloc, kept, &line.event, &line.outcome, choice, access);
+    expect(rt, step.expect(rt, "memory for the judge"));
+}
+
 /// How many devices there are once the line has come, the first after power-on.
 fn devices_after(rt: &impl Abort, alloc: Global, line: &Line) -> usize {
     let power_on = KeptState::power_on(alloc, Limits::of_model(), 64, 1, &[]);
     let mut kept = power_on.expect(rt, "memory for a world");
-    let (choice, access) = (&line.choice, &line.choice.access);
-    let step = judge(alloc, &mut kept, &line.event, &line.outcome, choice, access);
-    assert!(rt; step.expect(rt, "memory for the judge"));
+    comes(rt, alloc, &mut kept, line);
     kept.devices.as_slice().len()
 }
 

@@ -1,5 +1,4 @@
-use Rattle.std.proofs.Common.{◌∙◌, inl, inr, sym, ap}
-use Rattle.iom_way_survey.specs.Surveys.{IsReadAs, IsStoredAs}
+use Rattle.std.proofs.Common.{◌∙◌, inl, inr, sym}
 use Rattle.iom_hardware_session.proofs.WayLemmas.{no_both}
 use Rattle.iom_hardware_session.proofs.state.Session.is_used.Goals as goal
 

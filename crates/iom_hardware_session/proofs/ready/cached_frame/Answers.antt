@@ -1,0 +1,8 @@
+use Rattle.std.proofs.Common.{arith}
+use Rattle.iom_hardware_session.proofs.ReadyLemmas.{none_served}
+use Rattle.iom_hardware_session.proofs.ready.cached_frame.Goals as goal
+
+pub returns : goal.returns
+returns c =
+    none_served c.args.cache.now c.args.space c.args.page c.args.kind c.facts.ensures
+    (λ k low own at same on. c.loop-place.invariant k (omega (arith, low, c.loop-place-test.false)) own at same on)
