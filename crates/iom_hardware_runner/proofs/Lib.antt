@@ -2,4 +2,3 @@ pub mod RunLemmas
 pub mod TextLemmas
 pub mod BadLineLemmas
 pub mod ReadLemmas
-pub mod TrafficLemmas

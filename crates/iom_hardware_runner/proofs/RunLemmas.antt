@@ -1,16 +1,15 @@
 -- A session goes on, line by line.
-use Rattle.std.proofs.Common.{◌≡◌, ◌==◌, ◌∙◌, ℕ, ◌+◌, ◌/◌, ◌≤◌, ◌||◌, ◌&&◌, not, Result, Ok, Err, OnOk, Bool, true, false, List, [], ◌∷◌, ◌++◌, arith, refl, sym, ap, subst}
+use Rattle.std.proofs.Common.{◌≡◌, ◌==◌, ◌∙◌, ℕ, ◌+◌, ◌≤◌, ◌||◌, ◌&&◌, inl, inr, not, Result, Ok, Err, OnOk, Bool, true, false, List, [], ◌∷◌, ◌++◌, arith, refl, sym, ap, subst}
 use Rattle.std.specs.List.{list_any, AllPass}
-use Rattle.std.proofs.lemmas.Bool.{false≢true, or_left, or_right}
-use Rattle.std.proofs.lemmas.List.{map-append, append_assoc, append-nil, length-append}
-use Rattle.std.proofs.lemmas.List.Elements.{All-nil, All-cons, All-append, All-weaker}
+use Rattle.std.proofs.lemmas.Bool.{false≢true}
+use Rattle.std.proofs.lemmas.List.{map-append, length-append}
+use Rattle.std.proofs.lemmas.List.Elements.{All-nil, All-cons, All-append}
 use Rattle.std.proofs.lemmas.List.Folds.{list_any-append}
 use Rattle.std.proofs.lemmas.List.Sums.{fold-append}
 use Rattle.iom_claims.specs.Claimed.{Claimed, nothing_claimed}
 use Rattle.iom_claims.specs.Shown.{ShowsClaimed}
-use Rattle.iom_hardware_runner.proofs.TrafficLemmas.{adds_none, more_traffic, traffic_still}
-use Rattle.iom_hardware_runner.specs.Runs.{Nothing, Line, Asked, is_help, is_traffic_at, has_traffic, is_own, is_of_software, brings_to_rest, acts_behind, acts, AreDrawn, AreAskedFor, HasRun}
-use Rattle.iom_hardware_runner.specs.Parts.{TellsLine, Does, AreFew, is_off, StaysOff, is_at, asks_at, KeepsTraffic, AddsTraffic, CameBy, MachineTakesLine}
+use Rattle.iom_hardware_runner.specs.Runs.{Comes, Directs, IsStill, RestsBehind, PowerOn, Line, TurnedOn, Directed, Rested, command_waits, is_at, is_help, is_own, is_of_software, brings_to_rest, acts_behind, acts, AreDrawn, HasRun, lines_of}
+use Rattle.iom_hardware_runner.specs.Parts.{TellsLine, Does, DoesSo, Rests, RestsNow, AreFew, is_off, StaysOff, asks_at, KeepsTraffic, CameBy, MachineTakesLine}
 use Rattle.iom_hardware_runner.specs.declared.faults.RunFault.{RunFault}
 use Rattle.iom_hardware_runner.specs.declared.helper.Helper.{Helper}
 use Rattle.iom_hardware_runner.specs.declared.helper.Traffic.{Traffic}
@@ -20,9 +19,12 @@ use Rattle.iom_hardware_script.specs.declared.script.HardwareLine.{HardwareLine}
 use Rattle.iom_hardware_script.specs.declared.script.HardwareLine.TheVariants as line
 use Rattle.iom_hardware_script.specs.declared.script.Help.{Help}
 use Rattle.iom_hardware_script.specs.declared.script.Help.TheVariants as helps
-use Rattle.iom_machine.specs.declared.event.Event.TheVariants.{Read, Write, WriteThroughCache, Ask, Commit, Fetch, Deliver, Step}
+use Rattle.iom_machine.specs.declared.event.Event.TheVariants.{Fetch}
 use Rattle.iom_hardware_session.proofs.SessionLemmas.{through_more}
-use Rattle.iom_hardware_session.specs.Runs.{LineReply, claimed_then, LineGoesOn, GoThrough, is_wrong_by, is_wrong, IsSessionAtPowerOn}
+use Rattle.iom_hardware_session.specs.Runs.{LineReply, claimed_then, LineGoesOn, GoThrough, is_wrong_by, is_wrong, is_any_reply_wrong, IsSessionAtPowerOn}
+use Rattle.iom_hardware_session.specs.declared.watched.Watched.{Watched}
+use Rattle.iom_iommu.specs.Parts.{registers_of}
+use Rattle.iom_registers.specs.Queues.{command_head}
 use Rattle.iom_hardware_session.specs.declared.session.Stepped.{Stepped}
 use Rattle.iom_hardware_session.specs.declared.state.Session.{Session}
 
@@ -38,7 +40,7 @@ or_false false = refl
 abbrev told_of : HardwareLine → Stepped → Session → LineReply
 told_of said stepped new = record { said = said; stepped = stepped; watched = new.watched.items }
 
--- A LINE MORE
+-- A LINE MORE of a run
 pub has_run_more : (frames : ℕ) (ran : List HardwareLine) (old new : Session) (wrong : Bool) (said : HardwareLine) (stepped : Stepped)
     → ((c : Claimed) → ShowsClaimed old.claims c → LineGoesOn old c (record { said = said; stepped = stepped; watched = new.watched.items }) new)
     → HasRun frames ran old wrong → HasRun frames (ran ++ said ∷ []) new (wrong || is_wrong_by stepped new.watched.items)
@@ -55,26 +57,65 @@ has_run_more frames ran old new wrong said stepped goes has =
       tells = list_any-append is_wrong has.all (reply ∷ []) ∙ ap (λ (b : Bool). b || (is_wrong reply || false)) has.tells ∙ ap (λ (b : Bool). wrong || b) (or_false (is_wrong reply));
     }
 
+-- lines one after another, and more of them
+pub through_both : (one other : List LineReply) (old between new : Session) (before middle after : Claimed) → GoThrough old before one between middle → GoThrough between middle other new after
+    → GoThrough old before (one ++ other) new after
+through_both [] other old between new before middle after (same, is) then =
+    subst (λ (s : Session). GoThrough s before other new after) same (subst (λ (c : Claimed). GoThrough between c other new after) is then)
+through_both (first ∷ others) other old between new before middle after (next, goes, rest) then =
+    (next, goes, through_both others other next between new (claimed_then first before) middle after rest then)
+
+or_same : (a b c : Bool) → ((a || b) || c) ≡ (a || (b || c))
+or_same true b c = refl
+or_same false b c = refl
+
+-- A LINE HAPPENS
+pub tells_line : (old new : Session) (old_wrong new_wrong : Bool) (said : HardwareLine) (stepped : Stepped) (watched : List Watched)
+    → ((c : Claimed) → ShowsClaimed old.claims c → LineGoesOn old c (record { said = said; stepped = stepped; watched = watched }) new)
+    → new_wrong ≡ (old_wrong || is_wrong_by stepped watched) → (before : Claimed) → ShowsClaimed old.claims before
+    → (reply : LineReply) × (reply.said ≡ said) × LineGoesOn old before reply new × (new_wrong ≡ (old_wrong || is_wrong reply))
+tells_line old new old_wrong new_wrong said stepped watched goes is before shows = (record { said = said; stepped = stepped; watched = watched }, refl, goes before shows, is)
+
 -- WHAT HARDWARE DOES BY ITSELF
 
 -- nothing
 pub does_nothing : (Are : List HardwareLine → Type 0) (old new : Teller) → new ≡ old → Are [] → Does Are old new
-does_nothing Are old new same none frames ran has = ([], none, subst (λ (t : Teller). HasRun frames (ran ++ []) t.session t.is_wrong) (sym same) still)
-  where
-    still : HasRun frames (ran ++ []) old.session old.is_wrong
-    still = subst (λ (r : List HardwareLine). HasRun frames r old.session old.is_wrong) (sym (append-nil ran)) has
+does_nothing Are old new same none before shows = (
+  [],
+  before,
+  none,
+  record { through = (ap (λ (t : Teller). t.session) same, refl); tells = ap (λ (t : Teller). t.is_wrong) same ∙ sym (or_false old.is_wrong) },
+)
 
 -- one thing
 pub does_one : (Are : List HardwareLine → Type 0) (old new : Teller) (own : HardwareLine) → TellsLine old own new → Are (own ∷ []) → Does Are old new
-does_one Are old new own tells are frames ran has = (own ∷ [], are, tells frames ran has)
+does_one Are old new own tells are before shows =
+    let (reply, said, goes, is) = tells before shows in (
+      reply ∷ [],
+      claimed_then reply before,
+      subst (λ (l : HardwareLine). Are (l ∷ [])) (sym said) are,
+      record { through = (new.session, goes, (refl, refl)); tells = is ∙ ap (λ (b : Bool). old.is_wrong || b) (sym (or_false (is_wrong reply))) },
+    )
 
 -- and more
+pub does_both : (old between new : Teller) (before middle after : Claimed) (one other : List LineReply) → DoesSo old between before one middle → DoesSo between new middle other after
+    → DoesSo old new before (one ++ other) after
+does_both old between new before middle after one other first then = record {
+  through = through_both one other old.session between.session new.session before middle after first.through then.through;
+  tells = then.tells ∙ ap (λ (b : Bool). b || is_any_reply_wrong other) first.tells ∙ or_same old.is_wrong (is_any_reply_wrong one) (is_any_reply_wrong other)
+      ∙ ap (λ (b : Bool). old.is_wrong || b) (sym (list_any-append is_wrong one other));
+}
+
 pub does_then : (Are Then Both : List HardwareLine → Type 0) (old between new : Teller) → ((one other : List HardwareLine) → Are one → Then other → Both (one ++ other))
     → Does Are old between → Does Then between new → Does Both old new
-does_then Are Then Both old between new both first then frames ran has =
-    let (one, are, has_one) = first frames ran has in
-    let (other, are_too, has_both) = then frames (ran ++ one) has_one in
-    (one ++ other, both one other are are_too, subst (λ (r : List HardwareLine). HasRun frames r new.session new.is_wrong) (append_assoc ran one other) has_both)
+does_then Are Then Both old between new both first then before shows =
+    let (one, middle, are, so) = first before shows in
+    let (other, after, are_too, then_so) = then middle (shown_after one old.session between.session before middle shows so.through) in (
+      one ++ other,
+      after,
+      subst (λ (l : List HardwareLine). Both l) (sym (map-append (λ (t : LineReply). t.said) one other)) (both (lines_of one) (lines_of other) are are_too),
+      does_both old between new before middle after one other so then_so,
+    )
 
 pub all_none : (kind : HardwareLine → Bool) → AllPass kind []
 all_none kind = All-nil (λ (l : HardwareLine). kind l ≡ true)
@@ -112,9 +153,9 @@ pub acts_once_more : (first now : Helper) (most : ℕ) (old between new : Teller
 acts_once_more first now most old between new same does once = does_more (asks_at first) most old between new does (few_kept first now 1 between new same once)
 
 pub does_at_most : (may : ℕ → ℕ → Bool) (few most : ℕ) (old new : Teller) → few ≤ most → Does (AreFew may few) old new → Does (AreFew may most) old new
-does_at_most may few most old new below does frames ran has =
-    let (own, are, has_own) = does frames ran has in
-    (own, (are.0, omega (arith, are.1, below)), has_own)
+does_at_most may few most old new below does before shows =
+    let (own, after, are, so) = does before shows in
+    (own, after, (are.0, omega (arith, are.1, below)), so)
 
 pub rests_more : (old between new : Teller) → Does (AllPass brings_to_rest) old between → Does (AllPass brings_to_rest) between new → Does (AllPass brings_to_rest) old new
 rests_more old between new first then =
@@ -130,9 +171,9 @@ draws_nothing may acting old new same = does_nothing (AreDrawn may acting) old n
 
 -- it acts by itself, and does so many things
 draws_few : (may : ℕ → ℕ → Bool) (acting : Bool) (most : ℕ) (old new : Teller) → acting ≡ true → most ≤ 3 → Does (AreFew may most) old new → Does (AreDrawn may acting) old new
-draws_few may acting most old new is few does frames ran has =
-    let (own, are, has_own) = does frames ran has in
-    (own, subst (λ (b : Bool). AreDrawn may b own) (sym is) (are.0, omega (arith, are.1, few)), has_own)
+draws_few may acting most old new is few does before shows =
+    let (own, after, are, so) = does before shows in
+    (own, after, subst (λ (b : Bool). AreDrawn may b (lines_of own)) (sym is) (are.0, omega (arith, are.1, few)), so)
 
 pub draws_few_ok : (old new : Helper) (most : ℕ) (before after : Teller) (result : Result (Unit {0}) RunFault) → is_off old ≡ false → KeepsTraffic old new → most ≤ 3
     → OnOk result (Does (AreFew (asks_at new) most) before after) → OnOk result (Does (AreDrawn (asks_at old) (not (is_off old))) before after)
@@ -148,24 +189,6 @@ draws_before_ok may acting soft old new result is does = subst (λ (b : Bool). O
     same : (a b : Bool) → b ≡ true → a ≡ (a && b)
     same true b e = sym e
     same false b e = refl
-
--- so where devices make requests at more pages
-own_wider : (few more : ℕ → ℕ → Bool) → ((device page : ℕ) → few device page ≡ true → more device page ≡ true) → (own : HardwareLine) → is_own few own ≡ true → is_own more own ≡ true
-own_wider few more wider (line.Event Fetch) is = refl
-own_wider few more wider (line.Event (Commit device)) is = refl
-own_wider few more wider (line.Event (Deliver place)) is = refl
-own_wider few more wider (line.Event (Step device)) is = refl
-own_wider few more wider (line.Event (Read device address len)) is = wider device (address / 4096) is
-own_wider few more wider (line.Event (Write device address bytes)) is = wider device (address / 4096) is
-own_wider few more wider (line.Event (WriteThroughCache device address bytes)) is = wider device (address / 4096) is
-own_wider few more wider (line.Event (Ask device page)) is = wider device page is
-own_wider few more wider own is = absurd (false≢true is)
-
-drawn_wider : (few more : ℕ → ℕ → Bool) (acting : Bool) (own : List HardwareLine) → ((device page : ℕ) → few device page ≡ true → more device page ≡ true)
-    → AreDrawn few acting own → AreDrawn more acting own
-drawn_wider few more true own wider (are, few_of_them) =
-    (All-weaker (λ (l : HardwareLine). is_own few l ≡ true) (λ (l : HardwareLine). is_own more l ≡ true) (own_wider few more wider) own are, few_of_them)
-drawn_wider few more false own wider none = none
 
 -- WHAT WAS SAID
 
@@ -189,43 +212,61 @@ acts_still (line.RegisterWrite offset width value) before no_help = refl
 acts_still (line.Claim claim) before no_help = refl
 acts_still (line.Help help) before no_help = absurd (false≢true (sym no_help))
 
--- hardware was asked to act by itself
-takes_help : (old new : Machine) (help : Help) → Does (AreAskedFor help) old.teller new.teller
-    → ((before : Bool) → (is_off old.helper ≡ false → before ≡ true) → is_off new.helper ≡ false → acts_behind (line.Help help) before ≡ true)
-    → AddsTraffic help old.helper new.helper → MachineTakesLine old (line.Help help) new
-takes_help old new help does on adds frames said came =
-    let (own, are, has) = does frames came.ran came.has_run in
-    record {
-      ran = came.ran ++ own;
-      spells = Asked said came.ran own help came.spells are;
-      has_run = has;
-      on = λ is. acts_more said (line.Help help) ∙ on (acts said) came.on is;
-      asks = λ device page is. more_traffic said (line.Help help) device page
-          (or_weaker (asks_at old.helper device page) (has_traffic said device page) (is_traffic_at device page (line.Help help)) (came.asks device page) (adds device page is));
-    }
-  where
-    or_weaker : (a b c : Bool) → (a ≡ true → b ≡ true) → (a || c) ≡ true → (b || c) ≡ true
-    or_weaker true b c then is = or_left b c (then refl)
-    or_weaker false b c then is = or_right b c is
+-- what is claimed is shown where a script has come to
+pub comes_shown : (frames : ℕ) (said : List HardwareLine) (session : Session) (claimed : Claimed) (traffic : List Traffic) (wrong : Bool) → Comes frames said session claimed traffic wrong
+    → ShowsClaimed session.claims claimed
+comes_shown frames _ session _ _ _ (PowerOn _ begins) = begins.claims
+comes_shown frames _ _ _ _ _ (Line said next old between new before middle own reply traffic wrong comes no_help are through is goes) = goes.claimed
+comes_shown frames _ _ _ _ _ (TurnedOn said seed session claimed traffic wrong comes) = comes_shown frames said session claimed traffic wrong comes
+comes_shown frames _ _ _ _ _ (Directed said device first last session claimed traffic directed wrong comes directs) = comes_shown frames said session claimed traffic wrong comes
+comes_shown frames _ _ _ _ _ (Rested said old new before after own traffic wrong any comes rests) =
+    shown_after rests.last rests.between new rests.middle after
+    (shown_after rests.front old rests.between before rests.middle (comes_shown frames said old before traffic wrong comes) rests.through) rests.ends
+
+-- the machine stands where a script has come to
+stands : (frames : ℕ) (said : List HardwareLine) (machine : Machine) (session : Session) (claimed : Claimed) (traffic : List Traffic) (wrong : Bool)
+    → Comes frames said session claimed traffic wrong → machine.teller.session ≡ session → machine.helper.traffic.items ≡ traffic → machine.teller.is_wrong ≡ wrong
+    → (is_off machine.helper ≡ false → acts said ≡ true) → CameBy frames said machine
+stands frames said machine session claimed traffic wrong comes sessions rows wrongs on = record {
+  claimed = claimed;
+  comes = subst (λ (s : Session). Comes frames said s claimed machine.helper.traffic.items machine.teller.is_wrong) (sym sessions)
+      (subst (λ (t : List Traffic). Comes frames said session claimed t machine.teller.is_wrong) (sym rows)
+      (subst (λ (b : Bool). Comes frames said session claimed traffic b) (sym wrongs) comes));
+  on = on;
+}
+
+-- whether hardware acts by itself behind a line that asks for help
+on_behind : (said : List HardwareLine) (help : Help) (old new : Helper) → (is_off old ≡ false → acts said ≡ true)
+    → ((before : Bool) → (is_off old ≡ false → before ≡ true) → is_off new ≡ false → acts_behind (line.Help help) before ≡ true)
+    → is_off new ≡ false → acts (said ++ line.Help help ∷ []) ≡ true
+on_behind said help old new was on is = acts_more said (line.Help help) ∙ on (acts said) was is
 
 -- numbers are drawn from the seed, where it isn't 0
 pub takes_auto : (old new : Machine) (seed : ℕ) → new.teller ≡ old.teller → is_off new.helper ≡ (seed == 0) → KeepsTraffic old.helper new.helper
     → MachineTakesLine old (line.Help (helps.Auto seed)) new
-takes_auto old new seed same is traffic =
-    takes_help old new (helps.Auto seed) (does_nothing (AreAskedFor (helps.Auto seed)) old.teller new.teller same refl) (λ before was on. ap not (sym is ∙ on))
-    (adds_none (helps.Auto seed) old.helper new.helper traffic)
+takes_auto old new seed same is traffic frames said came =
+    stands frames (said ++ line.Help (helps.Auto seed) ∷ []) new old.teller.session came.claimed old.helper.traffic.items old.teller.is_wrong
+    (TurnedOn said seed old.teller.session came.claimed old.helper.traffic.items old.teller.is_wrong came.comes) (ap (λ (t : Teller). t.session) same) traffic
+    (ap (λ (t : Teller). t.is_wrong) same) (on_behind said (helps.Auto seed) old.helper new.helper came.on (λ before was on. ap not (sym is ∙ on)))
 
--- and as before where devices make requests
+-- devices make requests elsewhere, or the line is refused
 pub takes_traffic : (old new : Machine) (device first last : ℕ) → new.teller ≡ old.teller → is_off new.helper ≡ is_off old.helper
-    → AddsTraffic (helps.Traffic device first last) old.helper new.helper → MachineTakesLine old (line.Help (helps.Traffic device first last)) new
-takes_traffic old new device first last same is adds =
-    takes_help old new (helps.Traffic device first last) (does_nothing (AreAskedFor (helps.Traffic device first last)) old.teller new.teller same refl) (λ before was on. was (sym is ∙ on)) adds
+    → Directs old.teller.session.hardware.board device first last old.helper.traffic.items new.helper.traffic.items
+    → MachineTakesLine old (line.Help (helps.Traffic device first last)) new
+takes_traffic old new device first last same is directs frames said came =
+    stands frames (said ++ line.Help (helps.Traffic device first last) ∷ []) new old.teller.session came.claimed new.helper.traffic.items old.teller.is_wrong
+    (Directed said device first last old.teller.session came.claimed old.helper.traffic.items new.helper.traffic.items old.teller.is_wrong came.comes directs)
+    (ap (λ (t : Teller). t.session) same) refl (ap (λ (t : Teller). t.is_wrong) same)
+    (on_behind said (helps.Traffic device first last) old.helper new.helper came.on (λ before was on. was (sym is ∙ on)))
 
--- or where hardware came to rest
-pub takes_quiesce : (old new : Machine) → Does (AllPass brings_to_rest) old.teller new.teller → new.helper ≡ old.helper → MachineTakesLine old (line.Help helps.Quiesce) new
-takes_quiesce old new does same =
-    takes_help old new helps.Quiesce does (λ before was on. was (sym (ap (λ (h : Helper). is_off h) same) ∙ on))
-    (adds_none helps.Quiesce old.helper new.helper (ap (λ (h : Helper). h.traffic.items) same))
+-- hardware comes to rest
+pub takes_quiesce : (old new : Machine) → Rests old.teller new.teller → new.helper ≡ old.helper → MachineTakesLine old (line.Help helps.Quiesce) new
+takes_quiesce old new rests same frames said came =
+    let (own, after, any, comes, is) = rests came.claimed (comes_shown frames said old.teller.session came.claimed old.helper.traffic.items old.teller.is_wrong came.comes) in
+    stands frames (said ++ line.Help helps.Quiesce ∷ []) new new.teller.session after old.helper.traffic.items (old.teller.is_wrong || any)
+    (Rested said old.teller.session new.teller.session came.claimed after own old.helper.traffic.items old.teller.is_wrong any came.comes comes) refl
+    (ap (λ (h : Helper). h.traffic.items) same) is
+    (on_behind said helps.Quiesce old.helper new.helper came.on (λ before was on. was (sym (ap (λ (h : Helper). is_off h) same) ∙ on)))
 
 -- what came before the line was drawn, where hardware acts by itself
 drawn_by : (may : ℕ → ℕ → Bool) (off acting soft : Bool) (own : List HardwareLine) → (off ≡ false → acting ≡ true) → AreDrawn may (not off && soft) own
@@ -238,30 +279,97 @@ pub takes_line : (old between new : Machine) (next : HardwareLine) → is_help n
     → Does (AreDrawn (asks_at old.helper) (not (is_off old.helper) && is_of_software next)) old.teller between.teller → StaysOff old.helper between.helper
     → KeepsTraffic old.helper between.helper → TellsLine between.teller next new.teller → new.helper ≡ between.helper → MachineTakesLine old next new
 takes_line old between new next no_help does off traffic tells same frames said came =
-    let (own, are, has) = does frames came.ran came.has_run in
-    record {
-      ran = came.ran ++ own ++ next ∷ [];
-      spells = Line said came.ran own next came.spells no_help
-          (drawn_by (has_traffic said) (is_off old.helper) (acts said) (is_of_software next) own came.on
-          (drawn_wider (asks_at old.helper) (has_traffic said) (not (is_off old.helper) && is_of_software next) own came.asks are));
-      has_run = tells frames (came.ran ++ own) has;
-      on = λ is. acts_more said next ∙ acts_still next (acts said) no_help ∙ came.on (off (sym (ap (λ (h : Helper). is_off h) same) ∙ is));
-      asks = traffic_still said next old.helper new.helper (ap (λ (h : Helper). h.traffic.items) same ∙ traffic) came.asks;
-    }
+    let shows = comes_shown frames said old.teller.session came.claimed old.helper.traffic.items old.teller.is_wrong came.comes in
+    let (own, middle, are, so) = does came.claimed shows in
+    let (reply, is_said, goes, is) = tells middle (shown_after own old.teller.session between.teller.session came.claimed middle shows so.through) in
+    stands frames (said ++ next ∷ []) new new.teller.session (claimed_then reply middle) old.helper.traffic.items ((old.teller.is_wrong || is_any_reply_wrong own) || is_wrong reply)
+    (Line said next old.teller.session between.teller.session new.teller.session came.claimed middle own reply old.helper.traffic.items old.teller.is_wrong came.comes no_help
+    (drawn_by (asks_at old.helper) (is_off old.helper) (acts said) (is_of_software next) (lines_of own) came.on are) so.through is_said goes) refl
+    (ap (λ (h : Helper). h.traffic.items) same ∙ traffic) (is ∙ ap (λ (b : Bool). b || is_wrong reply) so.tells)
+    (λ is_on. acts_more said next ∙ acts_still next (acts said) no_help ∙ came.on (off (sym (ap (λ (h : Helper). is_off h) same) ∙ is_on)))
 
 -- nothing was said yet
 pub came_by_nothing : (frames : ℕ) (machine : Machine) (session : Session) → IsSessionAtPowerOn frames session → machine.teller.session ≡ session → machine.teller.is_wrong ≡ false
     → is_off machine.helper ≡ true → machine.helper.traffic.items ≡ [] → CameBy frames [] machine
-came_by_nothing frames machine session begins sessions wrongs off none_asks = record {
-  ran = [];
-  spells = Nothing;
-  has_run = subst (λ (s : Session). HasRun frames [] s machine.teller.is_wrong) (sym sessions) (subst (λ (b : Bool). HasRun frames [] session b) (sym wrongs) none);
-  on = λ on. absurd (false≢true (sym on ∙ off));
-  asks = λ device page is. absurd (false≢true (sym (ap (λ (l : List Traffic). list_any (is_at device page) l) none_asks) ∙ is));
-}
+came_by_nothing frames machine session begins sessions wrongs off none_asks =
+    stands frames [] machine session nothing_claimed [] false (PowerOn session begins) sessions none_asks wrongs (λ on. absurd (false≢true (sym on ∙ off)))
+
+-- ON THE WAY TO REST
+
+-- it rests where it is still and no command waits
+pub rests_now : (old new : Teller) → new ≡ old → IsStill old.session.hardware.board → command_waits old.session.hardware.board ≡ false → RestsNow old new
+rests_now old new same still none before shows = (
+  [],
+  before,
+  subst (λ (t : Teller). RestsBehind old.session.hardware.board [] t.session.hardware.board) (sym same) (still, inl (refl, none)),
+  record { through = (ap (λ (t : Teller). t.session) same, refl); tells = ap (λ (t : Teller). t.is_wrong) same ∙ sym (or_false old.is_wrong) },
+)
+
+-- or where it is still, and a command was tried and not taken
+pub rests_stuck : (old new : Teller) (tried : HardwareLine) → TellsLine old tried new → tried ≡ line.Event Fetch → IsStill new.session.hardware.board
+    → command_head (registers_of new.session.hardware.board.iommu) ≡ command_head (registers_of old.session.hardware.board.iommu) → RestsNow old new
+rests_stuck old new tried tells is still same before shows =
+    let (reply, said, goes, wrong) = tells before shows in (
+      reply ∷ [],
+      claimed_then reply before,
+      (still, inr (ap (λ (l : HardwareLine). l ∷ []) (said ∙ is), same)),
+      record { through = (new.session, goes, (refl, refl)); tells = wrong ∙ ap (λ (b : Bool). old.is_wrong || b) (sym (or_false (is_wrong reply))) },
+    )
+
+-- it came closer to rest, and then rests
+pub came_to_rest : (old between new : Teller) → Does (AllPass brings_to_rest) old between → RestsNow between new → Rests old new
+came_to_rest old between new does rests before shows =
+    let (front, middle, settles, so) = does before shows in
+    let (last, after, behind, then_so) = rests middle (shown_after front old.session between.session before middle shows so.through) in (
+      front ++ last,
+      after,
+      is_any_reply_wrong (front ++ last),
+      record {
+        front = front;
+        between = between.session;
+        middle = middle;
+        last = last;
+        all = refl;
+        settles = settles;
+        through = so.through;
+        ends = then_so.through;
+        rests = behind;
+        tells = refl;
+      },
+      (does_both old between new before middle after front last so then_so).tells,
+    )
+
+-- A SCRIPT COMES TO A RUN of a session
+pub comes_run : (frames : ℕ) (said : List HardwareLine) (session : Session) (claimed : Claimed) (traffic : List Traffic) (wrong : Bool) → Comes frames said session claimed traffic wrong
+    → (ran : List HardwareLine) × HasRun frames ran session wrong
+comes_run frames said session claimed traffic wrong comes = let (first, all, begins, through, tells) = run_of frames said session claimed traffic wrong comes in
+    (lines_of all, record { first = first; all = all; claimed = claimed; begins = begins; same = refl; through = through; tells = tells })
   where
-    none : HasRun frames [] session false
-    none = record { first = session; all = []; claimed = nothing_claimed; begins = begins; same = refl; through = (refl, refl); tells = refl }
+    run_of : (frames : ℕ) (said : List HardwareLine) (session : Session) (claimed : Claimed) (traffic : List Traffic) (wrong : Bool) → Comes frames said session claimed traffic wrong
+        → (first : Session) × (all : List LineReply) × IsSessionAtPowerOn frames first × GoThrough first nothing_claimed all session claimed × (is_any_reply_wrong all ≡ wrong)
+    run_of frames _ _ _ _ _ (PowerOn session begins) = (session, [], begins, (refl, refl), refl)
+    run_of frames _ _ _ _ _ (Line said next old between new before middle own reply traffic wrong comes no_help are through is goes) =
+        let (first, all, begins, ran, tells) = run_of frames said old before traffic wrong comes in (
+          first,
+          (all ++ own) ++ reply ∷ [],
+          begins,
+          through_more (all ++ own) reply first between new nothing_claimed middle (through_both all own first old between nothing_claimed before middle ran through) goes,
+          list_any-append is_wrong (all ++ own) (reply ∷ []) ∙ ap (λ (b : Bool). b || (is_wrong reply || false)) (list_any-append is_wrong all own)
+              ∙ ap (λ (b : Bool). (is_any_reply_wrong all || is_any_reply_wrong own) || b) (or_false (is_wrong reply))
+              ∙ ap (λ (b : Bool). (b || is_any_reply_wrong own) || is_wrong reply) tells,
+        )
+    run_of frames _ _ _ _ _ (TurnedOn said seed session claimed traffic wrong comes) = run_of frames said session claimed traffic wrong comes
+    run_of frames _ _ _ _ _ (Directed said device first last session claimed traffic directed wrong comes directs) = run_of frames said session claimed traffic wrong comes
+    run_of frames _ _ _ _ _ (Rested said old new before after own traffic wrong any comes rests) =
+        let (first, all, begins, ran, tells) = run_of frames said old before traffic wrong comes in (
+          first,
+          all ++ (rests.front ++ rests.last),
+          begins,
+          through_both all (rests.front ++ rests.last) first old new nothing_claimed before after ran
+              (through_both rests.front rests.last old rests.between new before rests.middle after rests.through rests.ends),
+          list_any-append is_wrong all (rests.front ++ rests.last) ∙ ap (λ (b : Bool). b || is_any_reply_wrong (rests.front ++ rests.last)) tells
+              ∙ ap (λ (b : Bool). wrong || b) (ap is_any_reply_wrong (sym rests.all) ∙ sym rests.tells),
+        )
 
 -- what holds holds where a result is Ok
 pub on_ok : {X E : Type 0} {P : Type 0} (result : Result X E) → P → OnOk result P

@@ -4,7 +4,7 @@ use Rattle.std.proofs.lemmas.List.{append_assoc, append-nil, length-append, leng
 use Rattle.std.proofs.lemmas.List.Concat.{flat_map-append}
 use Rattle.std.proofs.lemmas.List.Elements.{All-push, filter-append}
 use Rattle.iom_hardware_runner.specs.Parts.{CameBy, MachineTakesLine, TookTexts, IsRefused, HasTakenBytes}
-use Rattle.iom_hardware_runner.specs.Runs.{HasRun, TextsRun, ScriptRuns}
+use Rattle.iom_hardware_runner.specs.Runs.{Comes, TextsRun, ScriptRuns}
 use Rattle.iom_hardware_runner.specs.declared.faults.RunFault.{RunFault}
 use Rattle.iom_hardware_runner.specs.declared.machine.Machine.{Machine}
 use Rattle.iom_hardware_script.specs.declared.script.HardwareLine.{HardwareLine}
@@ -114,12 +114,12 @@ whole_runs most bytes count machine wrong is (texts, whole, short, free, same, c
         let same_wrong = subst (λ (o : Option Machine). MatchOption o (wrong ≡ false) (λ own. wrong ≡ own.teller.is_wrong)) there e in (
           frames,
           lines,
-          came.ran,
           own.teller.session,
+          came.claimed,
+          own.helper.traffic.items,
           setup_is,
           each,
-          came.spells,
-          subst (λ (b : Bool). HasRun frames came.ran own.teller.session b) (sym same_wrong) came.has_run,
+          subst (λ (b : Bool). Comes frames lines own.teller.session came.claimed own.helper.traffic.items b) (sym same_wrong) came.comes,
         )
 
 -- the machine answered: it took the line, where it is in the grammar

@@ -1,5 +1,6 @@
 pub mod Answers
 pub mod Draws
+pub mod Laws
 pub mod Runs
 pub mod Parts
 pub mod Statuses

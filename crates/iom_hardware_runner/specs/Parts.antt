@@ -1,19 +1,21 @@
 -- Where the parts of a runner have come to: what their private functions keep. No public contract cites it.
-use Rattle.std.specs.Prelude.{◌≡◌, ℕ, ◌+◌, ◌<◌, ◌≤◌, ◌==◌, ◌&&◌, ◌||◌, nat_le, ◌⊎◌, Bool, true, false, List, [], ◌∷◌, ◌++◌, length, Option, None, Some}
-use Rattle.std.specs.List.{All, AllPass, list_any}
-use Rattle.iom_hardware_runner.specs.Runs.{SpellsOut, is_traffic_at, has_traffic, is_own, acts, HasRun, NamesLine}
+use Rattle.std.specs.Prelude.{◌≡◌, ℕ, ◌+◌, ◌<◌, ◌≤◌, ◌==◌, ◌||◌, ◌⊎◌, Bool, true, false, List, [], ◌∷◌, ◌++◌, length, Option, None, Some}
+use Rattle.std.specs.List.{All, AllPass}
+use Rattle.iom_claims.specs.Claimed.{Claimed}
+use Rattle.iom_claims.specs.Shown.{ShowsClaimed}
+use Rattle.iom_hardware_runner.specs.Runs.{Comes, ComesToRest, RestsBehind, acts, asks_in, brings_to_rest, is_own, lines_of, NamesLine}
 use Rattle.iom_hardware_runner.specs.declared.arriving.Arriving.{Arriving}
 use Rattle.iom_hardware_runner.specs.declared.faults.RunFault.{RunFault}
 use Rattle.iom_hardware_runner.specs.declared.faults.RunFault.TheVariants.{BadScript, Reading, Memory}
 use Rattle.iom_hardware_runner.specs.declared.helper.Helper.{Helper}
-use Rattle.iom_hardware_runner.specs.declared.helper.Traffic.{Traffic}
 use Rattle.iom_hardware_runner.specs.declared.machine.Machine.{Machine}
+use Rattle.iom_hardware_runner.specs.declared.machine.Settling.{Settling}
+use Rattle.iom_hardware_runner.specs.declared.machine.Settling.TheVariants as settling
 use Rattle.iom_hardware_runner.specs.declared.teller.Teller.{Teller}
 use Rattle.iom_hardware_script.specs.declared.script.HardwareLine.{HardwareLine}
-use Rattle.iom_hardware_script.specs.declared.script.HardwareLine.TheVariants as says
-use Rattle.iom_hardware_script.specs.declared.script.Help.{Help}
 use Rattle.iom_hardware_script.specs.declared.script.HardwareScript.{HardwareScript}
 use Rattle.iom_hardware_script.specs.Grammar.{IsSetupLine, IsHardwareLine, SayHardware}
+use Rattle.iom_hardware_session.specs.Runs.{GoThrough, LineGoesOn, LineReply, is_any_reply_wrong, is_wrong}
 use Rattle.iom_script.specs.declared.parser.ScriptFault.{ScriptFault}
 use Rattle.iom_script.specs.declared.parser.ScriptFault.TheVariants as script_faults
 use Rattle.iom_script.specs.Words.{IsWithout}
@@ -26,34 +28,47 @@ use Rattle.iom_script_reading.specs.declared.reading.ReadFault.TheVariants as re
 abbrev pub KeepsSession : Teller → Teller → Type 0
 KeepsSession old new = (new.session ≡ old.session) × (new.is_wrong ≡ old.is_wrong)
 
--- whatever ran before, the line ran
+-- the line happens, whatever is claimed
 abbrev pub TellsLine : Teller → HardwareLine → Teller → Type 0
-TellsLine old said new = (frames : ℕ) (ran : List HardwareLine) → HasRun frames ran old.session old.is_wrong → HasRun frames (ran ++ said ∷ []) new.session new.is_wrong
+TellsLine old said new = (before : Claimed) → ShowsClaimed old.session.claims before
+    → (reply : LineReply) × (reply.said ≡ said) × LineGoesOn old.session before reply new.session × (new.is_wrong ≡ (old.is_wrong || is_wrong reply))
 
--- whatever ran before, hardware did something by itself, and this is so of all that it did
+-- these lines happen, from where a session stands and from what is claimed
+pub record DoesSo (old new : Teller) (before : Claimed) (own : List LineReply) (after : Claimed) : Type 0 where
+  pub through : GoThrough old.session before own new.session after
+  pub tells : new.is_wrong ≡ (old.is_wrong || is_any_reply_wrong own)
+
+-- hardware does something by itself, whatever is claimed, and this is so of all that it does
 abbrev pub Does : (List HardwareLine → Type 0) → Teller → Teller → Type 0
-Does Are old new = (frames : ℕ) (ran : List HardwareLine) → HasRun frames ran old.session old.is_wrong
-    → (own : List HardwareLine) × Are own × HasRun frames (ran ++ own) new.session new.is_wrong
+Does Are old new = (before : Claimed) → ShowsClaimed old.session.claims before → (own : List LineReply) × (after : Claimed) × Are (lines_of own) × DoesSo old new before own after
+
+-- it comes to rest
+abbrev pub Rests : Teller → Teller → Type 0
+Rests old new = (before : Claimed) → ShowsClaimed old.session.claims before
+    → (own : List LineReply) × (after : Claimed) × (any : Bool) × ComesToRest old.session before own new.session after any × (new.is_wrong ≡ (old.is_wrong || any))
+
+-- by this last thing, or by none
+abbrev pub RestsNow : Teller → Teller → Type 0
+RestsNow old new = (before : Claimed) → ShowsClaimed old.session.claims before
+    → (last : List LineReply) × (after : Claimed) × RestsBehind old.session.hardware.board (lines_of last) new.session.hardware.board × DoesSo old new before last after
+
+-- by what came of a step on the way to rest
+abbrev pub SettlesSo : Settling → Teller → Teller → Type 0
+SettlesSo settling.Rests old new = RestsNow old new
+SettlesSo settling.Moved old new = Does (AllPass brings_to_rest) old new
+SettlesSo settling.Violated old new = Does (AllPass brings_to_rest) old new
 
 -- it did so many things at most
 abbrev pub AreFew : (may : ℕ → ℕ → Bool) → (most : ℕ) → List HardwareLine → Type 0
 AreFew may most own = AllPass (is_own may) own × (length own ≤ most)
 
--- the traffic is at the page of the device
-abbrev pub is_at : (device page : ℕ) → Traffic → Bool
-is_at device page row = (row.device == device) && (nat_le row.first page && nat_le page row.last)
-
 -- the device makes requests there by itself
 abbrev pub asks_at : Helper → (device page : ℕ) → Bool
-asks_at helper device page = list_any (is_at device page) helper.traffic.items
+asks_at helper device page = asks_in helper.traffic.items device page
 
 -- it does where it did
 abbrev pub KeepsTraffic : Helper → Helper → Type 0
 KeepsTraffic old new = new.traffic.items ≡ old.traffic.items
-
--- it does where it did, or where the line says
-abbrev pub AddsTraffic : Help → Helper → Helper → Type 0
-AddsTraffic help old new = (device page : ℕ) → asks_at new device page ≡ true → (asks_at old device page || is_traffic_at device page (says.Help help)) ≡ true
 
 -- hardware does nothing by itself
 abbrev pub is_off : Helper → Bool
@@ -63,14 +78,11 @@ is_off helper = helper.draws.last == 0
 abbrev pub StaysOff : Helper → Helper → Type 0
 StaysOff old new = is_off new ≡ false → is_off old ≡ false
 
--- these lines were said, and the machine has run what they spell out; numbers are drawn only where hardware acts by itself,
--- and devices ask only where a line says so
+-- these lines were said, and the machine came so far by them; numbers are drawn only where hardware acts by itself
 pub record CameBy (frames : ℕ) (said : List HardwareLine) (machine : Machine) : Type 0 where
-  pub ran : List HardwareLine
-  pub spells : SpellsOut said ran
-  pub has_run : HasRun frames ran machine.teller.session machine.teller.is_wrong
+  pub claimed : Claimed
+  pub comes : Comes frames said machine.teller.session claimed machine.helper.traffic.items machine.teller.is_wrong
   pub on : is_off machine.helper ≡ false → acts said ≡ true
-  pub asks : (device page : ℕ) → asks_at machine.helper device page ≡ true → has_traffic said device page ≡ true
 
 -- whatever was said before, the line was said too
 abbrev pub MachineTakesLine : Machine → HardwareLine → Machine → Type 0

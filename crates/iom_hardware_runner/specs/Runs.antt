@@ -1,29 +1,34 @@
 -- What a script of a driver under test comes to: a run of a session from power-on.
-use Rattle.std.specs.Prelude.{◌≡◌, ◌==◌, ℕ, ◌+◌, ◌/◌, ◌<◌, ◌≤◌, ⊤, Bool, true, false, not, nat_le, ◌&&◌, List, [], ◌∷◌, ◌++◌, map, fold, length}
+use Rattle.std.specs.Prelude.{◌≡◌, ◌==◌, ℕ, ◌+◌, ◌/◌, ◌<◌, ◌≤◌, ⊤, Bool, true, false, not, nat_le, ◌&&◌, ◌||◌, ◌⊎◌, List, [], ◌∷◌, ◌++◌, map, fold, length, None}
+use Rattle.iom_base.specs.declared.refusal.Refusal.{Refusal}
+use Rattle.iom_board.specs.declared.board.Board.{Board}
 use Rattle.iom_claims.specs.Claimed.{Claimed, nothing_claimed}
+use Rattle.iom_hardware_runner.specs.Traffic.{CanMakeRequests, TrafficIsRefused, with_traffic}
 use Rattle.iom_hardware_runner.specs.declared.faults.RunFault.{RunFault}
+use Rattle.iom_hardware_runner.specs.declared.helper.Traffic.{Traffic}
 use Rattle.iom_hardware_runner.specs.declared.faults.RunFault.TheVariants.{BadScript, Reading, Writing, Memory, TooManyEvents}
 use Rattle.iom_hardware_script.specs.declared.script.HardwareLine.{HardwareLine}
 use Rattle.iom_hardware_script.specs.declared.script.HardwareLine.TheVariants as line
 use Rattle.iom_hardware_script.specs.declared.script.HardwareScript.{HardwareScript}
-use Rattle.iom_hardware_script.specs.declared.script.Help.{Help}
-use Rattle.iom_hardware_script.specs.declared.script.Help.TheVariants.{Auto, Traffic, Quiesce}
+use Rattle.iom_hardware_script.specs.declared.script.Help.TheVariants as help
 use Rattle.iom_hardware_script.specs.Grammar.{IsSetupLine, IsHardwareLine, SayHardware}
-use Rattle.iom_hardware_session.specs.Runs.{LineReply, GoThrough, is_any_reply_wrong, IsSessionAtPowerOn}
+use Rattle.iom_hardware_session.specs.Runs.{LineReply, LineGoesOn, GoThrough, claimed_then, is_wrong, is_any_reply_wrong, IsSessionAtPowerOn}
 use Rattle.iom_hardware_session.specs.declared.state.Session.{Session}
+use Rattle.iom_inflight.specs.Flights.{first_busy}
+use Rattle.iom_iommu.specs.Parts.{flights_of, registers_of}
 use Rattle.iom_machine.specs.declared.event.Event.TheVariants.{Read, Write, WriteThroughCache, Ask, Commit, Fetch, Deliver, Step, Poke, Peek}
+use Rattle.iom_registers.specs.Queues.{command_head, command_tail, is_processing_commands}
 use Rattle.iom_script.specs.Words.{IsWithout}
 use Rattle.iom_script.specs.Grammar.{SayEach, spoken, bytes_of_lines}
 use Rattle.std.specs.List.{All, AllPass, list_any}
 
--- by this line the device makes requests at the page by itself
-abbrev pub is_traffic_at : (device page : ℕ) → HardwareLine → Bool
-is_traffic_at device page (line.Help (Traffic asking first last)) = (asking == device) && (nat_le first page && nat_le page last)
-is_traffic_at device page said = false
+-- the row of traffic is at the page of the device
+abbrev pub is_at : (device page : ℕ) → Traffic → Bool
+is_at device page row = (row.device == device) && (nat_le row.first page && nat_le page row.last)
 
--- behind these lines it may
-abbrev pub has_traffic : List HardwareLine → (device page : ℕ) → Bool
-has_traffic said device page = list_any (is_traffic_at device page) said
+-- with these rows the device makes requests at the page by itself
+abbrev pub asks_in : List Traffic → (device page : ℕ) → Bool
+asks_in rows device page = list_any (is_at device page) rows
 
 -- hardware or a device does this by itself: a command is taken, an access made, a message delivered, a block device takes a step,
 -- or a device asks for something at a page where it may
@@ -61,7 +66,7 @@ is_help said = false
 
 -- whether hardware acts by itself behind the line, by whether it did before: `auto` says so, and no other line does
 abbrev pub acts_behind : HardwareLine → Bool → Bool
-acts_behind (line.Help (Auto seed)) before = not (seed == 0)
+acts_behind (line.Help (help.Auto seed)) before = not (seed == 0)
 acts_behind said before = before
 
 -- HARDWARE ACTS BY ITSELF behind these lines, from power-on: the last `auto` among them has a seed other than 0
@@ -72,19 +77,6 @@ acts said = fold (λ before next. acts_behind next before) false said
 abbrev pub AreDrawn : (may : ℕ → ℕ → Bool) → (acting : Bool) → List HardwareLine → Type 0
 AreDrawn may true own = AllPass (is_own may) own × (length own ≤ 3)
 AreDrawn may false own = own ≡ []
-
--- what it does behind a line that asks it to: it comes to rest behind `quiesce`, and does nothing behind another
-abbrev pub AreAskedFor : Help → List HardwareLine → Type 0
-AreAskedFor Quiesce own = AllPass brings_to_rest own
-AreAskedFor help own = own ≡ []
-
--- WHAT RAN is what was said, in its order, with what hardware does by itself in between: before a line of software, where it acts by itself,
--- and behind a `quiesce`. A line that asks for that doesn't run itself
-pub data SpellsOut : List HardwareLine → List HardwareLine → Type 0 where
-  Nothing : SpellsOut [] []
-  Line : (said ran own : List HardwareLine) (next : HardwareLine) → SpellsOut said ran → is_help next ≡ false → AreDrawn (has_traffic said) (acts said && is_of_software next) own
-      → SpellsOut (said ++ next ∷ []) (ran ++ own ++ next ∷ [])
-  Asked : (said ran own : List HardwareLine) (help : Help) → SpellsOut said ran → AreAskedFor help own → SpellsOut (said ++ line.Help help ∷ []) (ran ++ own)
 
 -- the lines of what was told
 abbrev pub lines_of : List LineReply → List HardwareLine
@@ -100,12 +92,63 @@ pub record HasRun (frames : ℕ) (ran : List HardwareLine) (session : Session) (
   pub through : GoThrough first nothing_claimed all session claimed
   pub tells : is_any_reply_wrong all ≡ wrong
 
+-- A LINE `traffic` is taken where the device can make requests at these pages: they take the place of its earlier ones. Else it is refused for a reason that is so
+abbrev pub Directs : Board → (device first last : ℕ) → List Traffic → List Traffic → Type 0
+Directs hardware device first last old new =
+    (CanMakeRequests hardware device first last × (new ≡ with_traffic (record { device = device; first = first; last = last }) old))
+    ⊎ ((why : Refusal) × TrafficIsRefused why hardware device first last × (new ≡ old))
+
+-- no access is in flight, and no message under way
+pub record IsStill (hardware : Board) : Type 0 where
+  pub accesses : first_busy (flights_of hardware.iommu).rows ≡ None
+  pub messages : hardware.fabric ≡ []
+
+-- a command waits that may be taken
+abbrev pub command_waits : Board → Bool
+command_waits hardware = is_processing_commands (registers_of hardware.iommu) && not (command_head (registers_of hardware.iommu) == command_tail (registers_of hardware.iommu))
+
+-- HARDWARE RESTS: it is still, and no command waits; or one was tried last, and wasn't taken
+abbrev pub RestsBehind : Board → (last : List HardwareLine) → Board → Type 0
+RestsBehind old last new =
+    IsStill new
+    × (((last ≡ []) × (command_waits new ≡ false)) ⊎ ((last ≡ line.Event Fetch ∷ []) × (command_head (registers_of new.iommu) ≡ command_head (registers_of old.iommu))))
+
+-- behind a `quiesce` it took commands, made accesses and delivered messages, until it rested
+pub record ComesToRest (old : Session) (before : Claimed) (own : List LineReply) (new : Session) (after : Claimed) (wrong : Bool) : Type 0 where
+  pub front : List LineReply
+  pub between : Session
+  pub middle : Claimed
+  pub last : List LineReply
+  pub all : own ≡ front ++ last
+  pub settles : AllPass brings_to_rest (lines_of front)
+  pub through : GoThrough old before front between middle
+  pub ends : GoThrough between middle last new after
+  pub rests : RestsBehind between.hardware.board (lines_of last) new.hardware.board
+  pub tells : wrong ≡ is_any_reply_wrong own
+
+-- WHAT A SCRIPT COMES TO, line by line from power-on: where the session stands, what is claimed, at which pages devices make requests by themselves, and whether
+-- anything was wrong. Before a line of software hardware may act by itself, where that is on; a line that asks for this does nothing itself
+pub data Comes (frames : ℕ) : List HardwareLine → Session → Claimed → List Traffic → Bool → Type 0 where
+  PowerOn : (session : Session) → IsSessionAtPowerOn frames session → Comes frames [] session nothing_claimed [] false
+  Line : (said : List HardwareLine) (next : HardwareLine) (old between new : Session) (before middle : Claimed) (own : List LineReply) (reply : LineReply) (traffic : List Traffic)
+      (wrong : Bool) → Comes frames said old before traffic wrong → is_help next ≡ false → AreDrawn (asks_in traffic) (acts said && is_of_software next) (lines_of own)
+      → GoThrough old before own between middle → reply.said ≡ next → LineGoesOn between middle reply new
+      → Comes frames (said ++ next ∷ []) new (claimed_then reply middle) traffic ((wrong || is_any_reply_wrong own) || is_wrong reply)
+  TurnedOn : (said : List HardwareLine) (seed : ℕ) (session : Session) (claimed : Claimed) (traffic : List Traffic) (wrong : Bool) → Comes frames said session claimed traffic wrong
+      → Comes frames (said ++ line.Help (help.Auto seed) ∷ []) session claimed traffic wrong
+  Directed : (said : List HardwareLine) (device first last : ℕ) (session : Session) (claimed : Claimed) (traffic directed : List Traffic) (wrong : Bool)
+      → Comes frames said session claimed traffic wrong → Directs session.hardware.board device first last traffic directed
+      → Comes frames (said ++ line.Help (help.Traffic device first last) ∷ []) session claimed directed wrong
+  Rested : (said : List HardwareLine) (old new : Session) (before after : Claimed) (own : List LineReply) (traffic : List Traffic) (wrong any : Bool)
+      → Comes frames said old before traffic wrong → ComesToRest old before own new after any
+      → Comes frames (said ++ line.Help help.Quiesce ∷ []) new after traffic (wrong || any)
+
 -- lines that all say something: none of them, or one that says how much memory there is, and then what happens
 abbrev pub TextsRun : List (List ℕ) → Bool → Type 0
 TextsRun [] wrong = wrong ≡ false
 TextsRun (setup ∷ texts) wrong =
-    (frames : ℕ) × (said : List HardwareLine) × (ran : List HardwareLine) × (session : Session)
-    × IsSetupLine setup frames × SayEach IsHardwareLine texts said × SpellsOut said ran × HasRun frames ran session wrong
+    (frames : ℕ) × (said : List HardwareLine) × (session : Session) × (claimed : Claimed) × (traffic : List Traffic)
+    × IsSetupLine setup frames × SayEach IsHardwareLine texts said × Comes frames said session claimed traffic wrong
 
 -- THE BYTES ARE A SCRIPT that was run so, and this is whether anything was wrong
 abbrev pub ScriptRuns : List ℕ → Bool → Type 0

@@ -1,10 +1,11 @@
 // Hardware that acts by itself: which steps it takes.
 ghost use Rattle.std.specs.Prelude.{◌≡◌, ◌==◌, ◌≤◌, [], true, IfOk, IfErr, OnOk, OnErr};
-ghost use Rattle.iom_hardware_runner.specs.Parts.{is_off, is_at, asks_at, KeepsTraffic};
-ghost use Rattle.iom_hardware_runner.specs.Runs.{is_own};
+ghost use Rattle.iom_hardware_runner.specs.Parts.{is_off, asks_at, KeepsTraffic};
+ghost use Rattle.iom_hardware_runner.specs.Runs.{is_at, is_own};
 ghost use Rattle.iom_hardware_runner.specs.Traffic.{CanMakeRequests, TrafficIsRefused, with_traffic};
 
 use crate::draws::Draws;
+use crate::settling::can_fetch;
 use crate::step::Step;
 use iom_base::{DeviceId, PAGE_SIZE, Refusal};
 use iom_board::Board;
@@ -263,24 +264,4 @@ fn add_block_steps(steps: &mut Vec<Step>, hardware: &Board) -> Result<(), AllocE
         }
     }
     Ok(())
-}
-
-/// Whether a command waits and the queue runs.
-fn can_fetch(hardware: &Board) -> bool {
-    let registers = hardware.iommu.registers();
-    registers.is_processing_commands() && registers.command_head() != registers.command_tail()
-}
-
-/// The step that hardware takes next while it comes to rest. None where there is nothing left to do.
-pub(crate) fn settling_step(hardware: &Board) -> Option<Step> {
-    if let Some(device) = hardware.first_busy() {
-        return Some(Step::Commit(device));
-    }
-    if !hardware.messages().is_empty() {
-        return Some(Step::Deliver(0));
-    }
-    if can_fetch(hardware) {
-        return Some(Step::Fetch);
-    }
-    None
 }

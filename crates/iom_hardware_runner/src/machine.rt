@@ -1,17 +1,19 @@
 // Hardware under a driver: each line happens and is answered, and between two lines hardware may act by itself.
-ghost use Rattle.std.specs.Prelude.{◌≡◌, ◌&&◌, ◌++◌, ◌∷◌, [], ℕ, List, None, true, false, not, IfOk, IfErr, OnOk, IfSome};
-ghost use Rattle.std.specs.List.{AllPass};
-ghost use Rattle.iom_hardware_runner.specs.Parts.{is_off, StaysOff, asks_at, KeepsTraffic, AddsTraffic, TellsLine, Does, AreFew, CameBy, MachineTakesLine, NamesNone};
-ghost use Rattle.iom_hardware_runner.specs.Runs.{brings_to_rest, is_of_software, is_help, AreDrawn};
+ghost use Rattle.std.specs.Prelude.{◌≡◌, ◌↔◌, ◌&&◌, ◌++◌, ◌∷◌, [], ℕ, IsTrue, List, None, true, false, not, IfOk, IfErr, OnOk, IfSome};
+ghost use Rattle.iom_hardware_runner.specs.Parts.{is_off, StaysOff, asks_at, KeepsTraffic, TellsLine, Does, Rests, SettlesSo, AreFew, CameBy, MachineTakesLine, NamesNone};
+ghost use Rattle.iom_hardware_runner.specs.Runs.{is_of_software, is_help, AreDrawn, Directs, IsStill};
 ghost use Rattle.iom_hardware_script.specs.declared.script.HardwareLine.{HardwareLine as Line};
 ghost use Rattle.iom_hardware_script.specs.declared.script.HardwareLine.TheVariants as says;
 ghost use Rattle.iom_hardware_script.specs.declared.script.Help.TheVariants as helps;
 ghost use Rattle.iom_hardware_script.specs.Grammar.{IsSetupLine, IsHardwareLine};
+ghost use Rattle.iom_iommu.specs.Parts.{registers_of};
+ghost use Rattle.iom_registers.specs.Queues.{command_head};
 ghost use Rattle.iom_script.specs.Reading.{Reads};
 
 use crate::faults::RunFault;
-use crate::helper::{Helper, settling_step};
+use crate::helper::Helper;
 use crate::output::Output;
+use crate::settling::{is_fetch, is_still, settling_step};
 use crate::step::Step;
 use crate::teller::Teller;
 use iom_base::DeviceId;
@@ -56,17 +58,6 @@ fn read(alloc: Global, text: &[u8]) -> Result<Option<HardwareLine>, RunFault>
     ensures named { IfErr result NamesNone }
 {
     line_of(alloc, text).map_err(|_| RunFault::Memory)
-}
-
-/// Whether this brings hardware to rest: a command is taken, an access made, or the first message delivered.
-fn brings_to_rest(line: &HardwareLine) -> bool
-    ensures { result ≡ brings_to_rest line.now }
-{
-    match line {
-        HardwareLine::Event(Event::Fetch | Event::Commit { .. }) => true,
-        HardwareLine::Event(Event::Deliver { place }) => *place == 0,
-        _ => false,
-    }
 }
 
 /// Appends how many things hardware did on the way to rest, and how many of them were violations.
@@ -308,7 +299,7 @@ impl Machine {
     ) -> Result<(), RunFault>
         ensures teller { self.new.teller ≡ self.old.teller }
         ensures off { is_off self.new.helper ≡ is_off self.old.helper }
-        ensures added { OnOk result (AddsTraffic (helps.Traffic device first last) self.old.helper self.new.helper) }
+        ensures directed { OnOk result (Directs self.old.teller.session.hardware.board device first last self.old.helper.traffic.items self.new.helper.traffic.items) }
         ensures named { IfErr result NamesNone }
     {
         let hardware = self.teller.session.hardware();
@@ -324,32 +315,18 @@ impl Machine {
         }
     }
 
-    /// The same on the way to rest, where less is done.
-    fn tell_settling(&mut self, text: &str, output: &Output) -> Result<Option<String>, RunFault>
-        ensures rests { OnOk result (Does (AllPass brings_to_rest) self.old.teller self.new.teller) }
-        ensures helper { self.new.helper ≡ self.old.helper }
-        ensures named { IfErr result NamesNone }
+    /// Whether hardware is still, and the head of the command queue is where it was.
+    fn is_stuck(&self, head: u32) -> bool
+        ensures { IsTrue result ↔ (IsStill self.now.teller.session.hardware.board × (command_head (registers_of self.now.teller.session.hardware.board.iommu) ≡ head)) }
     {
-        let Some(said) = read(self.alloc, text.as_bytes())? else {
-            return Ok(None);
-        };
-        if !brings_to_rest(&said) {
-            return Ok(None);
-        }
-        let words = self.tell(said, output)?;
-        Ok(Some(words))
-    }
-
-    /// Whether the step took no command: the head of the queue is where it was.
-    fn is_stuck(&self, step: Step, head: u32) -> bool {
         let hardware = self.teller.session.hardware();
-        matches!(step, Step::Fetch) && hardware.iommu.registers().command_head() == head
+        is_still(hardware) && hardware.iommu.registers().command_head() == head
     }
 
-    /// Takes the next step of those that bring hardware to rest. Whether it did something, and whether that was a
+    /// Takes the next step of those that bring hardware to rest. Whether there was one, or hardware rests; and whether it was a
     /// violation.
     fn settle_once(&mut self, output: &Output) -> Result<Settling, RunFault>
-        ensures rests { OnOk result (Does (AllPass brings_to_rest) self.old.teller self.new.teller) }
+        ensures settles { IfOk result (λ came. SettlesSo came self.old.teller self.new.teller) }
         ensures helper { self.new.helper ≡ self.old.helper }
         ensures named { IfErr result NamesNone }
     {
@@ -358,11 +335,9 @@ impl Machine {
         let Some(step) = settling_step(hardware) else {
             return Ok(Settling::Rests);
         };
-        let text = format!(in self.alloc; "{step}").map_err(|_| RunFault::Memory)?;
-        let Some(words) = self.tell_settling(&text, output)? else {
-            return Ok(Settling::Rests);
-        };
-        if self.is_stuck(step, head) {
+        let is_fetch = is_fetch(&step);
+        let words = self.tell(step, output)?;
+        if is_fetch && self.is_stuck(head) {
             return Ok(Settling::Rests);
         }
         // Nothing but a violation has words behind the answer of a step.
@@ -375,26 +350,25 @@ impl Machine {
 
     /// Hardware goes on until it rests. How many things it did, and how many of them were violations.
     fn settle(&mut self, output: &Output) -> Result<(u64, u64), RunFault>
-        ensures rests { OnOk result (Does (AllPass brings_to_rest) self.old.teller self.new.teller) }
+        ensures rests { OnOk result (Rests self.old.teller self.new.teller) }
         ensures helper { self.new.helper ≡ self.old.helper }
         ensures named { IfErr result NamesNone }
     {
-        let mut steps = 0u64;
         let mut violations = 0u64;
-        for _ in 0..u64::MAX {
+        for steps in 0..u64::MAX {
             match self.settle_once(output)? {
-                Settling::Rests => break,
+                Settling::Rests => return Ok((steps, violations)),
                 Settling::Moved => {}
                 Settling::Violated => violations = violations.saturating_add(1),
             }
-            steps = steps.saturating_add(1);
         }
-        Ok((steps, violations))
+        // Each step is an event, so these are too many before.
+        Err(RunFault::TooManyEvents)
     }
 
     /// Hardware comes to rest: what is in flight is made, what is under way delivered, and commands are taken.
     fn quiesce(&mut self, output: &mut Output) -> Result<(), RunFault>
-        ensures rests { OnOk result (Does (AllPass brings_to_rest) self.old.teller self.new.teller) }
+        ensures rests { OnOk result (Rests self.old.teller self.new.teller) }
         ensures helper { self.new.helper ≡ self.old.helper }
         ensures named { IfErr result NamesNone }
     {

@@ -18,7 +18,7 @@ returns-in_ok-direct-in-Traffic-clause-taken c =
     on_ok c.log-in-Traffic.result
     (subst (λ (h : Help). MachineTakesLine c.args.self.now (line.Help h) c.direct.new.self) (sym c.in-Traffic.is)
     (takes_traffic c.args.self.now c.direct.new.self c.in-Traffic.device c.in-Traffic.first c.in-Traffic.last c.direct.ensures.teller c.direct.ensures.off
-    c.in_ok-direct-in-Traffic.ensures.added))
+    c.in_ok-direct-in-Traffic.ensures.directed))
 
 pub returns-in_ok-quiesce-in-Quiesce-clause-taken : goal.returns-in_ok-quiesce-in-Quiesce-clause-taken
 returns-in_ok-quiesce-in-Quiesce-clause-taken c =

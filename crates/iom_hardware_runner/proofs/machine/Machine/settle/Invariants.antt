@@ -5,5 +5,5 @@ use Rattle.iom_hardware_runner.specs.Runs.{brings_to_rest}
 use Rattle.iom_hardware_runner.proofs.machine.Machine.settle.Given as goal
 
 -- hardware came closer to rest so far, and drew nothing
-abbrev pub invariant-loop : goal.invariant-loop
-invariant-loop l = Does (AllPass brings_to_rest) l.fn.self.teller l.self.teller × (l.self.helper ≡ l.fn.self.helper)
+abbrev pub invariant-loop-steps : goal.invariant-loop-steps
+invariant-loop-steps l = Does (AllPass brings_to_rest) l.fn.self.teller l.self.teller × (l.self.helper ≡ l.fn.self.helper)

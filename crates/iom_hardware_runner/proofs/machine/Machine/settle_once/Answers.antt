@@ -1,14 +1,22 @@
-use Rattle.std.proofs.Common.{refl}
+use Rattle.std.proofs.Common.{◌∙◌, ap}
 use Rattle.std.specs.List.{AllPass}
-use Rattle.iom_hardware_runner.proofs.RunLemmas.{does_nothing, all_none}
+use Rattle.iom_board.specs.declared.board.Board.{Board}
+use Rattle.iom_iommu.specs.Parts.{registers_of}
+use Rattle.iom_registers.specs.Queues.{command_head}
 use Rattle.iom_hardware_runner.specs.Runs.{brings_to_rest}
+use Rattle.iom_hardware_runner.proofs.RunLemmas.{all_one, does_one, rests_stuck}
 use Rattle.iom_hardware_runner.proofs.machine.Machine.settle_once.Goals as goal
 
-pub returns-in_default-clause-rests : goal.returns-in_default-clause-rests
-returns-in_default-clause-rests c = does_nothing (AllPass brings_to_rest) c.args.self.now.teller c.args.self.now.teller refl (all_none brings_to_rest)
+pub returns-then-is_stuck-clause-settles : goal.returns-then-is_stuck-clause-settles
+returns-then-is_stuck-clause-settles c =
+    let stuck = c.is_stuck.ensures.0 c.if-is_stuck.true in
+    rests_stuck c.args.self.now.teller c.tell.new.self.teller c.in-Some.step c.in_ok-words.ensures.reply (c.is_fetch-is_fetch.ensures c.if-is_fetch.true) stuck.0
+    (stuck.1 ∙ c.command_head-head.ensures.value ∙ ap command_head c.registers.ensures ∙ ap (λ (b : Board). command_head (registers_of b.iommu)) c.hardware-hardware.ensures)
 
-pub returns-then-is_empty-clause-rests : goal.returns-then-is_empty-clause-rests
-returns-then-is_empty-clause-rests c = c.in_ok-words.ensures.rests
+pub returns-then-is_empty-clause-settles : goal.returns-then-is_empty-clause-settles
+returns-then-is_empty-clause-settles c =
+    does_one (AllPass brings_to_rest) c.args.self.now.teller c.tell.new.self.teller c.in-Some.step c.in_ok-words.ensures.reply (all_one brings_to_rest c.in-Some.step c.in-Some.ensures.some)
 
-pub returns-clause-rests : goal.returns-clause-rests
-returns-clause-rests c = c.in_ok-words.ensures.rests
+pub returns-clause-settles : goal.returns-clause-settles
+returns-clause-settles c =
+    does_one (AllPass brings_to_rest) c.args.self.now.teller c.tell.new.self.teller c.in-Some.step c.in_ok-words.ensures.reply (all_one brings_to_rest c.in-Some.step c.in-Some.ensures.some)

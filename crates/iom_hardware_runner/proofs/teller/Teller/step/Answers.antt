@@ -1,13 +1,13 @@
-use Rattle.std.proofs.Common.{◌||◌, Bool, [], ◌∷◌, ◌++◌, refl, sym, subst}
-use Rattle.iom_hardware_runner.specs.Runs.{HasRun}
-use Rattle.iom_hardware_runner.proofs.RunLemmas.{has_run_more}
+use Rattle.std.proofs.Common.{◌||◌, Bool, ap, refl}
+use Rattle.iom_hardware_runner.proofs.RunLemmas.{tells_line}
 use Rattle.iom_hardware_runner.proofs.teller.Teller.step.Goals as goal
 
 pub returns-clause-tells : goal.returns-clause-tells
-returns-clause-tells c = λ frames ran has.
+returns-clause-tells c =
+    let old = c.args.self.now in
+    let new = c.line-stepped.new.self in
     let said = c.line-stepped.ensures in
-    subst (λ (b : Bool). HasRun frames (ran ++ c.args.line.now ∷ []) c.line-stepped.new.self (c.args.self.now.is_wrong || b)) (sym c.is_wrong.ensures)
-    (has_run_more frames ran c.args.self.now.session c.line-stepped.new.self c.args.self.now.is_wrong c.args.line.now c.line-stepped.result
+    tells_line old.session new old.is_wrong (old.is_wrong || c.is_wrong.result) c.args.line.now c.line-stepped.result new.watched.items
     (λ claimed shows. record {
       effect = said.effect;
       claimed = said.claimed claimed shows;
@@ -20,4 +20,4 @@ returns-clause-tells c = λ frames ran has.
       allowed = said.allowed claimed shows;
       watched = refl;
     })
-    has)
+    (ap (λ (b : Bool). old.is_wrong || b) c.is_wrong.ensures)
