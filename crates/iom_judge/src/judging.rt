@@ -28,7 +28,7 @@ fn begin<'x>(found: &mut Option<TraceMachine>, line: &Line<'_>, said: &'x TraceL
             let Some(machine) = TraceMachine::power_on(line.alloc, *size, *limits)? else {
                 return Err(line.bad("no world has this size")?);
             };
-            *found = Some(machine);
+            found.insert(machine);
             Ok(())
         }
         _ => Err(line.bad("nothing says yet how large the world is")?),
