@@ -1,6 +1,6 @@
 // Lines that come in pieces.
 ghost use Rattle.std.specs.Prelude.{◌≡◌, ◌+◌, ◌<◌, ◌≤◌, ◌++◌, ◌∷◌, [], ℕ, List, length, IfOk, IfErr, OnOk};
-ghost use Rattle.iom_hardware_runner.specs.Parts.{HasArrived, IsBadLine, IsRoomFor, Breaks, IsBadRest, IsUnended, NamesNext};
+ghost use Rattle.iom_hardware_runner.specs.Parts.{HasArrived, IsBadLine, IsRoomFor, Breaks, IsBadRest, IsUnended, NamesNext, NamesNone};
 ghost use Rattle.iom_hardware_runner.specs.Runs.{ScriptRuns, NamesLine};
 ghost use Rattle.iom_script.specs.Words.{IsWithout};
 
@@ -22,14 +22,17 @@ pub(crate) struct Arriving {
 }
 
 impl Arriving {
-    pub(crate) fn new(alloc: Global) -> Arriving
-        ensures arrived { (most : ℕ) → HasArrived most [] result }
-        ensures empty { result.piece.items ≡ [] }
+    /// It stands in a box, since it has room for the whole of the hardware.
+    pub(crate) fn new(alloc: Global) -> Result<Box<Arriving>, RunFault>
+        ensures arrived { IfOk result (λ arriving. (most : ℕ) → HasArrived most [] arriving.value) }
+        ensures empty { IfOk result (λ arriving. arriving.value.piece.items ≡ []) }
+        ensures named { IfErr result NamesNone }
     {
-        Arriving {
+        let arriving = Arriving {
             conversation: Conversation::new(alloc),
             piece: Vec::new(alloc),
-        }
+        };
+        Box::new(alloc, arriving).map_err(|_| RunFault::Memory)
     }
 
     /// The line that comes next is none.

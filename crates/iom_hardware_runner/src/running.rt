@@ -32,7 +32,7 @@ pub fn run_bytes<W: Write, L: Write>(
 {
     // What it says is asked again line by line, as in a live session: so both answer alike.
     parse(alloc, bytes)?;
-    let mut arriving = Arriving::new(alloc);
+    let mut arriving = Arriving::new(alloc)?;
     arriving.take(bytes, writer, log)?;
     arriving.end()
 }
@@ -81,7 +81,7 @@ pub fn run_live<R: Read, W: Write, L: Write>(
     ensures bad { IfErr result (λ fault. IfSome (R.remaining reader.old) (λ input. NamesLine (IsFirstBadSessionLine input) fault)) }
 {
     let mut chunk = [0u8; READ_SIZE];
-    let mut arriving = Arriving::new(alloc);
+    let mut arriving = Arriving::new(alloc)?;
     for _ in 0..u64::MAX {
         let count = read_piece(reader, &mut chunk)?;
         if count == 0 {
