@@ -14,3 +14,4 @@ pub mod ClaimLemmas
 pub mod SessionLemmas
 mod SameLemmas
 pub mod ReadyLemmas
+pub mod AcceptLemmas

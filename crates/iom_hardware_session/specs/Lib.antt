@@ -6,6 +6,7 @@ pub mod Claiming
 pub mod Admitted
 pub mod Timely
 pub mod Ready
+pub mod Accepted
 pub mod Good
 pub mod Wrong
 pub mod Watching

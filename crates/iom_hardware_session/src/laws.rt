@@ -1,4 +1,5 @@
 //! What follows of a claim that is good.
+ghost use Rattle.iom_hardware_session.specs.Accepted.{ReadyIsAccepted, UnreadyIsNotAccepted};
 ghost use Rattle.iom_hardware_session.specs.Laws.{DoneStaysDone, HandedOffStaysFree, GoodAgainHolds};
 ghost use Rattle.iom_hardware_session.specs.Sessions.{AccessesAreClaimed, DoneStaysOutOfReach, HandedOffStaysUntouched};
 
@@ -24,3 +25,12 @@ pub fn session_law()
 {
     good_law();
 }
+
+/// A device of which a claim `ready` is `Good` holds a frame at the page. Where that is a frame of memory, the IOMMU answers
+/// each of its untranslated requests at the page, for an access that its right allows, by this frame, as hardware stands
+/// (`accepted`). Where the claim is `Wrong`, it answers those of some kind that is allowed by no frame, or by another
+/// (`refused`). Both hold of a device whose context has tables in one stage at most. It does nothing.
+pub fn ready_law()
+    ensures accepted { ReadyIsAccepted }
+    ensures refused { UnreadyIsNotAccepted }
+{}

@@ -1,0 +1,5 @@
+use Rattle.iom_hardware_session.proofs.AcceptLemmas.{ready_accepted, unready_not_accepted}
+use Rattle.iom_hardware_session.proofs.laws.ready_law.Goals as goal
+
+pub returns : goal.returns
+returns c = record { accepted = ready_accepted; refused = unready_not_accepted }
