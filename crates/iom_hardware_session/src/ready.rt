@@ -7,16 +7,16 @@ ghost use Rattle.iom_iommu.specs.Service.{cached_for};
 ghost use Rattle.iom_tlb.specs.Ways.{content_of_sets};
 ghost use Rattle.iom_tlb.specs.declared.cached_page.CachedPage.{CachedPage};
 ghost use Rattle.iom_tlb.specs.declared.trans_cache.Translation.{Translation};
-ghost use Rattle.iom_way_survey.specs.Found.{cached_found, found_of, has_directory, stored_found};
 
 use crate::answer::{Found, Wrong};
-use iom_base::{AccessKind, Cause, DeviceId, PAGE_SIZE, Rights};
+use iom_base::{AccessKind, DeviceId, PAGE_SIZE, Rights};
 use iom_board::Board;
-use iom_device_dir::{Context, FirstStage, SecondStage, fits_directory, locate};
+use iom_device_dir::{Context, FirstStage, SecondStage};
 use iom_phys_mem::Memory;
-use iom_registers::{DirectoryMode, DirectoryPointer};
+use iom_registers::DirectoryMode;
 use iom_stage_walk::{WalkFault, Walked, walk_first, walk_second};
 use iom_tlb::{CachedPage, Ioatc, PLACES, Space};
+use iom_way_survey::{cached_in, stored_in};
 
 impl Found {
     /// A walk that ended so.
@@ -30,61 +30,13 @@ impl Found {
     }
 }
 
-/// Whether there is a directory in this mode.
-fn has_directory(mode: DirectoryMode) -> bool
-    ensures { result ≡ has_directory mode }
-{
-    match mode {
-        DirectoryMode::Off | DirectoryMode::Bare => false,
-        DirectoryMode::OneLevel | DirectoryMode::TwoLevels | DirectoryMode::ThreeLevels => true,
-    }
-}
-
-/// The context that is cached for the device, where a request finds it.
-fn cached_context(hardware: &Board, device: DeviceId) -> Option<Context>
-    ensures { result ≡ cached_found (board_parts hardware.now) device }
-{
-    let mode = hardware.iommu.registers().directory_mode();
-    if has_directory(mode) && fits_directory(mode, device) {
-        return hardware.iommu.cached_context(device);
-    }
-    None
-}
-
-/// The context, where one was located.
-fn located(answer: Result<Context, Cause>) -> Option<Context>
-    ensures { result ≡ found_of answer }
-{
-    match answer {
-        Ok(context) => Some(context),
-        Err(_) => None,
-    }
-}
-
-/// The context that the directory has for the device.
-#[tactic(auto, unfolding(iom_device_dir::specs::Located::located_by_mode))]
-fn stored_context(hardware: &Board, device: DeviceId) -> Option<Context>
-    ensures { result ≡ stored_found (board_parts hardware.now) device }
-{
-    let registers = hardware.iommu.registers();
-    let mode = registers.directory_mode();
-    if !has_directory(mode) {
-        return None;
-    }
-    let pointer = DirectoryPointer {
-        mode,
-        ppn: registers.directory_root(),
-    };
-    located(locate(&hardware.memory, pointer, device))
-}
-
 /// The context that a request of the device finds: the cached one, or the one in memory.
 fn context_of(hardware: &Board, device: DeviceId) -> Option<Context>
     ensures { result ≡ context_found (board_parts hardware.now) device }
 {
-    match cached_context(hardware, device) {
+    match cached_in(hardware, device) {
         Some(context) => Some(context),
-        None => stored_context(hardware, device),
+        None => stored_in(hardware, device),
     }
 }
 

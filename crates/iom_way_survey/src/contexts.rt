@@ -47,8 +47,9 @@ fn located(answer: Result<Context, Cause>) -> Option<Context>
     }
 }
 
-/// The context that is cached for the device, where a request finds it.
-pub(crate) fn cached_in(hardware: &Board, id: DeviceId) -> Option<Context>
+/// The context that is cached for the device with the id, where a request finds it: where `ddtp` names a directory, and the id
+/// isn't too wide for it (IOMMU specification, section 2.3).
+pub fn cached_in(hardware: &Board, id: DeviceId) -> Option<Context>
     ensures { result ≡ cached_found (board_parts hardware.now) id }
 {
     let mode = hardware.iommu.registers().directory_mode();
@@ -58,9 +59,10 @@ pub(crate) fn cached_in(hardware: &Board, id: DeviceId) -> Option<Context>
     None
 }
 
-/// The context that the directory has for the device.
+/// The context that the directory has for the device with the id, if a walk from `ddtp` finds one now (IOMMU specification,
+/// section 2.3.1).
 #[tactic(auto, unfolding(iom_device_dir::specs::Located::located_by_mode))]
-pub(crate) fn stored_in(hardware: &Board, id: DeviceId) -> Option<Context>
+pub fn stored_in(hardware: &Board, id: DeviceId) -> Option<Context>
     ensures { result ≡ stored_found (board_parts hardware.now) id }
 {
     let registers = hardware.iommu.registers();

@@ -21,4 +21,5 @@ mod same;
 mod spaces;
 mod survey;
 
+pub use contexts::{cached_in, stored_in};
 pub use findings::{Conflict, Survey};
