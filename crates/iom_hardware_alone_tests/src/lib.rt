@@ -6,9 +6,13 @@
 #![tactic(auto)]
 
 #[cfg(test)]
+mod draws;
+#[cfg(test)]
 mod expect;
 #[cfg(test)]
 mod machine;
+#[cfg(test)]
+mod paces;
 #[cfg(test)]
 mod reasons;
 #[cfg(test)]

@@ -14,6 +14,7 @@ use iom_board::laws::software_keeps_invariant;
 use iom_board::{Board, CacheReply, Delivered, NoPlace, Sender};
 use iom_fabric::{PageNumber, Repeat};
 use iom_fault_reasons::{WhyFault, WhyTranslated, why_fault, why_translated};
+use iom_inflight::MadeAt;
 use iom_iommu::{Fetched, Reply};
 use iom_registers::Mmio;
 use std::alloc::Global;
@@ -75,9 +76,13 @@ pub(crate) struct Machine {
 
 impl Machine {
     /// At power-on, with the disks 3 and 4. Boxed: of what a test owns in place each later proof would carry every part.
-    fn at_power_on(rt: &impl Abort, alloc: Global) -> Box<Machine> {
+    pub(crate) fn at_power_on(rt: &impl Abort, alloc: Global) -> Box<Machine> {
         let hardware = Board::new(alloc, FRAMES, &[3, 4]).expect(rt, "memory for the hardware");
         Box::new(alloc, Machine { hardware }).expect(rt, "memory for the machine")
+    }
+
+    pub(crate) fn board(&self) -> &Board {
+        &self.hardware
     }
 
     /// One more event can be counted.
@@ -88,7 +93,7 @@ impl Machine {
         assert!(rt; has_room);
     }
 
-    fn write(&mut self, rt: &impl Abort, offset: u64, value: u64) {
+    pub(crate) fn write(&mut self, rt: &impl Abort, offset: u64, value: u64) {
         software_keeps_invariant();
         let written = self.hardware.iommu.write(offset, width_at(offset), value);
         expect(rt, written.is_ok());
@@ -99,13 +104,19 @@ impl Machine {
         self.write(rt, CQCSR, 3);
     }
 
-    fn stores(&mut self, rt: &impl Abort, address: u64, word: u64, expected: Result<(), NoPlace>) {
+    pub(crate) fn stores(
+        &mut self,
+        rt: &impl Abort,
+        address: u64,
+        word: u64,
+        expected: Result<(), NoPlace>,
+    ) {
         self.expect_room(rt);
         let stored = self.hardware.store(address, &word.to_le_bytes());
         expect(rt, stored == expected);
     }
 
-    fn put(&mut self, rt: &impl Abort, index: u32, (first, second): (u64, u64)) {
+    pub(crate) fn put(&mut self, rt: &impl Abort, index: u32, (first, second): (u64, u64)) {
         let place = RING + 16 * u64::from(index);
         self.stores(rt, place, first, Ok(()));
         self.stores(rt, place + 8, second, Ok(()));
@@ -122,9 +133,13 @@ impl Machine {
         expect(rt, loaded.err() == Some(expected));
     }
 
-    fn fetches(&mut self, rt: &impl Abort, expected: Fetched) {
+    pub(crate) fn fetched(&mut self, rt: &impl Abort) -> Fetched {
         self.expect_room(rt);
-        let fetched = self.hardware.fetch();
+        self.hardware.fetch()
+    }
+
+    fn fetches(&mut self, rt: &impl Abort, expected: Fetched) {
+        let fetched = self.fetched(rt);
         expect(rt, fetched == expected);
     }
 
@@ -134,7 +149,13 @@ impl Machine {
         expect(rt, has_effect == expected);
     }
 
-    fn plugs(&mut self, rt: &impl Abort, id: u32, what: NewDevice, expected: Result<(), Refusal>) {
+    pub(crate) fn plugs(
+        &mut self,
+        rt: &impl Abort,
+        id: u32,
+        what: NewDevice,
+        expected: Result<(), Refusal>,
+    ) {
         self.expect_room(rt);
         let plugged = self.hardware.plug(id, what);
         expect(rt, plugged == expected);
@@ -163,13 +184,30 @@ impl Machine {
         expect(rt, lost == expected);
     }
 
-    fn resets(&mut self, rt: &impl Abort, id: u32, expected: Result<(), Refusal>) {
+    pub(crate) fn reset(&mut self, rt: &impl Abort, id: u32) -> Result<(), Refusal> {
         self.expect_room(rt);
-        let reset = self.hardware.reset(id);
+        self.hardware.reset(id)
+    }
+
+    fn resets(&mut self, rt: &impl Abort, id: u32, expected: Result<(), Refusal>) {
+        let reset = self.reset(rt, id);
         expect(rt, reset == expected);
     }
 
-    fn requests(
+    /// A device asks for a read of so many bytes.
+    pub(crate) fn reads(
+        &mut self,
+        rt: &impl Abort,
+        id: u32,
+        address: u64,
+        len: u64,
+    ) -> Result<Reply, Refusal> {
+        self.expect_room(rt);
+        self.hardware
+            .request(Sender::Own, id, address, len, AccessKind::Read, b"")
+    }
+
+    pub(crate) fn requests(
         &mut self,
         rt: &impl Abort,
         sender: Sender,
@@ -186,7 +224,7 @@ impl Machine {
         self.hardware.request(sender, id, address, len, kind, bytes)
     }
 
-    fn translated(
+    pub(crate) fn translated(
         &mut self,
         rt: &impl Abort,
         id: u32,
@@ -220,6 +258,11 @@ impl Machine {
             .through_cache(sender, id, address, len, kind, bytes)
     }
 
+    pub(crate) fn commits(&mut self, rt: &impl Abort, id: u32) -> Result<Option<MadeAt>, Refusal> {
+        self.expect_room(rt);
+        self.hardware.commit(id)
+    }
+
     /// The oldest access of the device is made, as it was told before.
     fn makes(&mut self, rt: &impl Abort, id: u32, frame: u32, offset: u16, bytes: &[u8]) {
         self.expect_room(rt);
@@ -232,8 +275,7 @@ impl Machine {
     }
 
     fn makes_none(&mut self, rt: &impl Abort, id: u32, expected: Result<(), Refusal>) {
-        self.expect_room(rt);
-        let committed = self.hardware.commit(id);
+        let committed = self.commits(rt, id);
         expect(rt, committed == expected.map(|()| None));
     }
 

@@ -8,7 +8,11 @@ pub(crate) const CQB: u64 = 24;
 
 pub(crate) const CQT: u64 = 36;
 
+pub(crate) const FQB: u64 = 40;
+
 pub(crate) const CQCSR: u64 = 72;
+
+pub(crate) const FQCSR: u64 = 76;
 
 /// A queue of 256 entries in the frame 63, and its address.
 pub(crate) const BASE_VALUE: u64 = 0xfc07;
@@ -58,7 +62,7 @@ pub(crate) const INVALIDATE: (u64, u64) = (0x0000_0502_0000_0004, 0x3000);
 
 /// The width of the register at an offset.
 pub(crate) fn width_at(offset: u64) -> u32 {
-    if offset == CQB || offset == DDTP {
+    if offset == CQB || offset == DDTP || offset == FQB {
         8
     } else {
         4

@@ -53,8 +53,9 @@ enum Act<'a> {
     MakesNone(u32, Result<(), Refusal>),
 }
 
+/// A board, and beside it the requests that are under way.
 #[derive(Drop)]
-struct Machine {
+pub(crate) struct Machine {
     board: Board,
     walks: Walks,
     ghost invariants: { BoardInvariant (board_parts board) board.events } by { board_invariant_prop (board_parts board) board.events },
@@ -63,10 +64,14 @@ struct Machine {
 
 impl Machine {
     /// At power-on, with the disks 3 and 4. Boxed: of what a test owns in place each later proof would carry every part.
-    fn at_power_on(rt: &impl Abort, alloc: Global) -> Box<Machine> {
+    pub(crate) fn at_power_on(rt: &impl Abort, alloc: Global) -> Box<Machine> {
         let board = Board::new(alloc, FRAMES, &[3, 4]).expect(rt, "memory for it");
         let walks = Walks::new(alloc).expect(rt, "memory for walks");
         Box::new(alloc, Machine { board, walks }).expect(rt, "memory for the machine")
+    }
+
+    pub(crate) fn board(&self) -> &Board {
+        &self.board
     }
 
     /// One more event can be counted.
@@ -77,7 +82,7 @@ impl Machine {
         assert!(rt; has_room);
     }
 
-    fn write(&mut self, rt: &impl Abort, offset: u64, value: u64) {
+    pub(crate) fn write(&mut self, rt: &impl Abort, offset: u64, value: u64) {
         software_keeps_invariant();
         stays_beside();
         let width = width_at(offset);
@@ -85,38 +90,57 @@ impl Machine {
         expect(rt, written.is_ok());
     }
 
-    fn stores(&mut self, rt: &impl Abort, address: u64, word: u64, expected: Result<(), NoPlace>) {
+    pub(crate) fn stores(
+        &mut self,
+        rt: &impl Abort,
+        address: u64,
+        word: u64,
+        expected: Result<(), NoPlace>,
+    ) {
         stays_beside();
         self.expect_room(rt);
         let stored = self.board.store(address, &word.to_le_bytes());
         expect(rt, stored == expected);
     }
 
-    fn fetches(
-        &mut self,
-        rt: &impl Abort,
-        index: u32,
-        (first, second): (u64, u64),
-        expected: Fetched,
-    ) {
+    /// The command with these two words stands in this entry of the queue, and is the last one.
+    pub(crate) fn put(&mut self, rt: &impl Abort, index: u32, (first, second): (u64, u64)) {
         let place = RING + 16 * u64::from(index);
         self.stores(rt, place, first, Ok(()));
         self.stores(rt, place + 8, second, Ok(()));
         self.write(rt, CQT, u64::from(index).wrapping_add(1));
+    }
+
+    pub(crate) fn fetched(&mut self, rt: &impl Abort) -> Fetched {
         self.expect_room(rt);
-        let fetched = fetch(&mut self.board, &mut self.walks);
+        fetch(&mut self.board, &mut self.walks)
+    }
+
+    fn fetches(&mut self, rt: &impl Abort, index: u32, words: (u64, u64), expected: Fetched) {
+        self.put(rt, index, words);
+        let fetched = self.fetched(rt);
         expect(rt, fetched == expected);
     }
 
-    fn plugs(&mut self, rt: &impl Abort, id: u32, what: NewDevice, expected: Result<(), Refusal>) {
+    pub(crate) fn plugs(
+        &mut self,
+        rt: &impl Abort,
+        id: u32,
+        what: NewDevice,
+        expected: Result<(), Refusal>,
+    ) {
         self.expect_room(rt);
         let plugged = plug(&mut self.board, &mut self.walks, id, what);
         expect(rt, plugged == expected);
     }
 
-    fn resets(&mut self, rt: &impl Abort, id: u32, expected: Result<(), Refusal>) {
+    pub(crate) fn reset(&mut self, rt: &impl Abort, id: u32) -> Result<(), Refusal> {
         self.expect_room(rt);
-        let reset = reset(&mut self.board, &mut self.walks, id);
+        reset(&mut self.board, &mut self.walks, id)
+    }
+
+    fn resets(&mut self, rt: &impl Abort, id: u32, expected: Result<(), Refusal>) {
+        let reset = self.reset(rt, id);
         expect(rt, reset == expected);
     }
 
@@ -141,7 +165,28 @@ impl Machine {
         expect(rt, delivered == expected);
     }
 
-    fn begins(
+    /// A device asks for a read of so many bytes.
+    pub(crate) fn begins_read(
+        &mut self,
+        rt: &impl Abort,
+        id: u32,
+        address: u64,
+        len: u64,
+    ) -> Result<Begun, Refusal> {
+        self.expect_room(rt);
+        begin(
+            &mut self.board,
+            &mut self.walks,
+            Sender::Own,
+            id,
+            address,
+            len,
+            AccessKind::Read,
+            b"",
+        )
+    }
+
+    pub(crate) fn begins(
         &mut self,
         rt: &impl Abort,
         sender: Sender,
@@ -167,7 +212,7 @@ impl Machine {
         )
     }
 
-    fn translated(
+    pub(crate) fn translated(
         &mut self,
         rt: &impl Abort,
         id: u32,
@@ -216,13 +261,17 @@ impl Machine {
         }
     }
 
-    fn loads(&mut self, rt: &impl Abort, id: u32, expected: Result<Load, Refusal>) {
+    pub(crate) fn loaded(&mut self, rt: &impl Abort, id: u32) -> Result<Load, Refusal> {
         self.expect_room(rt);
-        let loaded = load(&mut self.board, &mut self.walks, id);
+        load(&mut self.board, &mut self.walks, id)
+    }
+
+    fn loads(&mut self, rt: &impl Abort, id: u32, expected: Result<Load, Refusal>) {
+        let loaded = self.loaded(rt, id);
         expect(rt, loaded == expected);
     }
 
-    fn commits(&mut self, rt: &impl Abort, id: u32) -> Result<Option<MadeAt>, Refusal> {
+    pub(crate) fn commits(&mut self, rt: &impl Abort, id: u32) -> Result<Option<MadeAt>, Refusal> {
         events_stay_beside();
         self.expect_room(rt);
         self.board.commit(id)

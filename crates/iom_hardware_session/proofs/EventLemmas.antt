@@ -1,5 +1,5 @@
 -- What comes of a line of devices or hardware is a call of hardware, or nothing.
-use Rattle.std.proofs.Common.{◌≡◌, inl, inr, ℕ, ◌&&◌, true, false, List, Option, None, Some, option_map, Result, Ok, Err, refl, sym, ◌∙◌}
+use Rattle.std.proofs.Common.{◌≡◌, ◌⊎◌, inl, inr, ℕ, ◌&&◌, true, false, List, Option, None, Some, option_map, Result, Ok, Err, refl, sym, ◌∙◌}
 use Rattle.std.proofs.lemmas.Bool.{false≢true, and_from}
 use Rattle.iom_base.specs.declared.access.AccessKind.{AccessKind}
 use Rattle.iom_base.specs.declared.access.AccessKind.TheVariants as kind
@@ -12,7 +12,8 @@ use Rattle.iom_hardware_ways.specs.Calls.{HardwareCall, CallEffect, HarmlessEffe
 use Rattle.iom_hardware_ways.specs.Calls as call
 use Rattle.iom_hardware_script.specs.declared.script.HardwareLine.TheVariants as line
 use Rattle.iom_hardware.specs.declared.steps.Stepped.{Stepped}
-use Rattle.iom_hardware_session.proofs.BlockLemmas.{UnchangedOrCalls, step_calls, queue_calls}
+use Rattle.iom_block_ways.proofs.WholeLemmas.{harmless, step_calls, queue_calls}
+use Rattle.iom_block_ways.specs.Calls.{UnchangedOrCalls}
 use Rattle.iom_hardware_session.specs.Answered.{reply_in, cache_reply_in, sending_in, fetch_in, timeout_in, delivery_in, drop_in, repeat_in, commit_in, reset_in, load_in, queue_in, step_in, status_in}
 use Rattle.iom_hardware_session.specs.Events.{CallOrNothing, Unchanged, LoadsAsAnswered, StepsAsAnswered, SetsQueueAsAnswered, TellsAsAnswered, EventOrNone}
 use Rattle.iom_hardware_session.specs.Shown.{ShownHardware}
@@ -32,7 +33,12 @@ EffectByCall trusted old new = (done : HardwareCall) × CallEffect done (board_p
 
 -- nothing is done at the board, or something by a call
 abbrev pub UnchangedOrEffect : List ℕ → ShownHardware → ShownHardware → Type 0
-UnchangedOrEffect trusted old new = UnchangedOrCalls (is_id_among trusted) (board_parts old.board) (board_parts new.board)
+UnchangedOrEffect trusted old new = (board_parts new.board ≡ board_parts old.board) ⊎ EffectByCall trusted old.board new.board
+
+-- so does a block device at a line of its own
+by_block : (trusted : List ℕ) (old new : ShownHardware) → UnchangedOrCalls (board_parts old.board) (board_parts new.board) → UnchangedOrEffect trusted old new
+by_block trusted old new (inl same) = inl same
+by_block trusted old new (inr (done, effect, none)) = inr (done, effect, harmless (is_id_among trusted) done (board_parts old.board) none)
 
 by_call : {X : Type 0} (trusted : List ℕ) (old new : ShownHardware) (of : X → HardwareCall) (answer : Option X) → ((x : X) → answer ≡ Some x → HarmlessEffect (is_id_among trusted) (of x) (board_parts old.board))
     → CallOrNothing (option_map of answer) old new → UnchangedOrEffect trusted old new
@@ -45,12 +51,13 @@ loads_nothing old new address len (Some answer) effect = effect.1
 
 steps : (trusted : List ℕ) (old new : ShownHardware) (device : ℕ) (answer : Option (Result Stepped Refusal)) → StepsAsAnswered answer device old new → UnchangedOrEffect trusted old new
 steps trusted old new device None effect = absurd effect
-steps trusted old new device (Some answer) effect = step_calls (is_id_among trusted) (board_parts old.board) (board_parts new.board) old.inside new.inside device answer effect.0 effect.1
+steps trusted old new device (Some answer) effect =
+    by_block trusted old new (step_calls (board_parts old.board) (board_parts new.board) old.inside new.inside device answer effect.0 effect.1)
 
 sets : (trusted : List ℕ) (old new : ShownHardware) (device : ℕ) (layout : Layout) (answer : Option (Result (Unit {0}) Refusal)) → SetsQueueAsAnswered answer device layout old new
     → UnchangedOrEffect trusted old new
 sets trusted old new device layout None effect = absurd effect
-sets trusted old new device layout (Some answer) effect = queue_calls (is_id_among trusted) (board_parts old.board) (board_parts new.board) device layout answer effect.0
+sets trusted old new device layout (Some answer) effect = by_block trusted old new (queue_calls (board_parts old.board) (board_parts new.board) device layout answer effect.0)
 
 tells_nothing : (old new : ShownHardware) (device : ℕ) (answer : Option (Result ℕ Refusal)) → TellsAsAnswered answer device old new → Unchanged old new
 tells_nothing old new device None effect = absurd effect

@@ -7,7 +7,6 @@ pub mod GoodLemmas
 pub mod TurnLemmas
 pub mod MayLemmas
 pub mod InvariantLemmas
-pub mod BlockLemmas
 pub mod EventLemmas
 pub mod KeepLemmas
 pub mod ClaimLemmas

@@ -81,7 +81,7 @@ pub has_place : (trusted : ℕ → Bool) (parts : BoardParts) (events device fra
     → (k : ℕ) × (own : Device) × (slice_get parts.devices k ≡ Some own) × (own.id ≡ device)
 has_place trusted parts events device frame kind invariants (Accepted inside) = flying (flights_of parts.iommu).rows parts.devices device (record { frame = frame; kind = kind }) invariants.rows inside
 has_place trusted parts events device frame kind invariants (AnyFrame (own, is) bare) = plugged parts.devices device own is
-has_place trusted parts events device frame kind invariants (ByContext context ((own, is), there, found) through) = plugged parts.devices device own is
+has_place trusted parts events device frame kind invariants (ByContext context ((own, is), found) through) = plugged parts.devices device own is
 has_place trusted parts events device frame kind invariants (OnTheWalk space table steps mapping (k, less, at) leads serves) = absurd (omega (arith, less))
 
 -- one place has one device

@@ -38,7 +38,7 @@ pub carried : (trusted : ℕ → Bool) (old new : BoardParts) (fabric : List OnL
     → ((message : Message) → Contains (map message_of fabric) message → IsSendable (scene_of trusted old) message ⊎ Contains (map message_of old.fabric) message)
     → Comes (scene_of trusted old) (scene_of trusted new)
 carried trusted old new fabric is from =
-    one CarryMessages (scene_of trusted old) (scene_of trusted new) (map message_of fabric, from, ap (scene_of trusted) is)
+    one CarryMessages tt (scene_of trusted old) (scene_of trusted new) (map message_of fabric, from, ap (scene_of trusted) is)
 
 pub lost : (trusted : ℕ → Bool) (old : BoardParts) (place : ℕ) (found : Bool) (new : BoardParts) → LosesMessage old place found new
     → Comes (scene_of trusted old) (scene_of trusted new)

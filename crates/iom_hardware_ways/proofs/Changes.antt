@@ -3,14 +3,14 @@ use Rattle.std.proofs.Common.{◌≡◌, ◌⊎◌, inl, inr, ℕ, List, Contain
 use Rattle.iom_reach.specs.Memory.{Memory, WalkStep, DiffersAt}
 use Rattle.iom_reach.specs.Transitions.{IsPartOf, IsPartWith, WalkGives, Forget, KeepContext, KeepTranslation, RecordFault}
 use Rattle.iom_reach.specs.Scene.{Mapping, AddressSpace, SpacePage, Context, HardwareScene, HasDevice}
-use Rattle.iom_reach.specs.Ways.{IsStored, WalkBegins}
+use Rattle.iom_reach.specs.Ways.{IsStored, IsSought, WalkBegins}
 use Rattle.iom_hardware_ways.proofs.Turns.{Comes, nothing, one, in_succession}
 
--- contexts are forgotten, or the directory's context of the device is kept
+-- contexts are forgotten, or the context of the device that the directory has, or that a walk under way finds, is kept
 abbrev pub ContextsChange : HardwareScene → ℕ → (ℕ → Option Context) → Type 0
 ContextsChange scene device kept =
     IsPartOf kept scene.contexts
-    ⊎ ((context : Context) × HasDevice scene device × IsStored scene device context × IsPartWith kept device context scene.contexts)
+    ⊎ ((context : Context) × HasDevice scene device × (IsStored scene device context ⊎ IsSought scene device context) × IsPartWith kept device context scene.contexts)
 
 -- translations are forgotten, or what a walk gives is kept
 abbrev pub TranslationsChange : HardwareScene → (SpacePage → Option Mapping) → Type 0
@@ -26,19 +26,19 @@ MemoryChanges scene memory = (memory ≡ scene.memory) ⊎ ((frame : ℕ) × Con
 
 translations_change : (s : HardwareScene) (kept : SpacePage → Option Mapping) → TranslationsChange s kept → Comes s (record s { translations = kept })
 translations_change s kept (inl part) =
-    one Forget s (record s { translations = kept }) (s.contexts, kept, (λ device context there. there), part, refl)
+    one Forget tt s (record s { translations = kept }) (s.contexts, kept, (λ device context there. there), part, refl)
 translations_change s kept (inr (space, table, steps_to, page, mapping, begins, walked, part)) =
-    one KeepTranslation s (record s { translations = kept }) (space, table, steps_to, page, mapping, kept, begins, walked, part, refl)
+    one KeepTranslation tt s (record s { translations = kept }) (space, table, steps_to, page, mapping, kept, begins, walked, part, refl)
 
 contexts_change : (s : HardwareScene) (device : ℕ) (kept : ℕ → Option Context) → ContextsChange s device kept → Comes s (record s { contexts = kept })
 contexts_change s device kept (inl part) =
-    one Forget s (record s { contexts = kept }) (kept, s.translations, part, (λ at mapping there. there), refl)
+    one Forget tt s (record s { contexts = kept }) (kept, s.translations, part, (λ at mapping there. there), refl)
 contexts_change s device kept (inr (context, plugged, stored, part)) =
-    one (KeepContext device) s (record s { contexts = kept }) (context, kept, plugged, stored, part, refl)
+    one (KeepContext device) tt s (record s { contexts = kept }) (context, kept, plugged, stored, part, refl)
 
 memory_changes : (s : HardwareScene) (memory : Memory) → MemoryChanges s memory → Comes s (record s { memory = memory })
 memory_changes s memory (inl same) = nothing s (record s { memory = memory }) (ap (λ (m : Memory). record s { memory = m }) same)
-memory_changes s memory (inr (frame, there, differs)) = one RecordFault s (record s { memory = memory }) (frame, memory, there, differs, refl)
+memory_changes s memory (inr (frame, there, differs)) = one RecordFault tt s (record s { memory = memory }) (frame, memory, there, differs, refl)
 
 -- all of it, one after another
 pub all_change : (s : HardwareScene) (device : ℕ) (translations : SpacePage → Option Mapping) (contexts : ℕ → Option Context) (memory : Memory)

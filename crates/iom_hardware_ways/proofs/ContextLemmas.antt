@@ -44,7 +44,7 @@ pub same_shown : (m : DirectoryMode) (old new : Content ℕ DeviceContext) → I
 same_shown m old new same key value is = ap (shown (fits_directory m key)) (sym (same key)) ∙ is
 
 -- one more is
-sets_shown : (m : DirectoryMode) (id : ℕ) (context : DeviceContext) (old new : Content ℕ DeviceContext) → SetsOne old id context new
+pub sets_shown : (m : DirectoryMode) (id : ℕ) (context : DeviceContext) (old new : Content ℕ DeviceContext) → SetsOne old id context new
     → IsPartWith (contexts_in m new) id (context_of context) (contexts_in m old)
 sets_shown m id context old new (here, lost, others) key value is = elim (eqb_tells key id) [
   | inl e ↦ inl (e.1, one_shown (fits_directory m key) (new key) context value (ap new e.1 ∙ here) is)
@@ -67,7 +67,7 @@ kept_located trusted parts id new m is plugged None (Ok context) found (inl sets
     inr (
       context_of context,
       plugged,
-      located_in (directory_mode (registers_of parts.iommu)) parts.memory (directory_root (registers_of parts.iommu)) id context (sym found),
+      inl (located_in (directory_mode (registers_of parts.iommu)) parts.memory (directory_root (registers_of parts.iommu)) id context (sym found)),
       sets_shown (directory_mode (registers_of parts.iommu)) id context (contexts_of parts.iommu) new sets,
     )
 
@@ -102,12 +102,14 @@ may_find trusted parts id context plugged directory found =
     by false fits cached at is = absurd (cc)
     by true fits (Some own) at is = (
       plugged,
-      directory,
-      inl (ap (shown (fits_directory (directory_mode (registers_of parts.iommu)) id)) (sym at) ∙ ap (λ b. shown b (Some own)) (sym fits)
-          ∙ ap (λ c. Some (context_of c)) (let same : own ≡ context = cc in same)),
+      inl (
+        directory,
+        inl (ap (shown (fits_directory (directory_mode (registers_of parts.iommu)) id)) (sym at) ∙ ap (λ b. shown b (Some own)) (sym fits)
+            ∙ ap (λ c. Some (context_of c)) (let same : own ≡ context = cc in same)),
+      ),
     )
     by true fits None at is =
-        (plugged, directory, inr (located_in (directory_mode (registers_of parts.iommu)) parts.memory (directory_root (registers_of parts.iommu)) id context is))
+        (plugged, inl (directory, inr (located_in (directory_mode (registers_of parts.iommu)) parts.memory (directory_root (registers_of parts.iommu)) id context is)))
 
 -- by a transaction of ATS
 lets : (found : Result DeviceContext Cause) (context : DeviceContext) → letting_ats found ≡ Ok context → (found ≡ Ok context) × (context.en_ats ≡ true)

@@ -99,7 +99,7 @@ module _ (trusted : ℕ → Bool) (old new : BoardParts) (place device epoch pag
       ∙ alike_registers trusted new.memory (contexts_of new.iommu) (translations_of new.iommu) (flights_of old.iommu).rows old.devices
       (with_message (remove old.fabric place) device (sent.Answer epoch page says)))
       (in_succession s t last
-      (one CarryMessages s t (
+      (one CarryMessages tt s t (
         messages,
         (λ message is. elim (left_cases old.fabric place device (sent.Answer epoch page says) message is) [
           | inl same ↦ inl (subst (IsSendable s) same may)
@@ -226,7 +226,7 @@ module _ (trusted : ℕ → Bool) (old new : BoardParts) (place device epoch pag
       let entries = entries_in (with_cache old.devices device (Some kept)) in
       let between : BoardParts = record old { devices = with_cache old.devices device (Some kept) } in
       in_succession s (scene_of trusted between) (scene_of trusted new)
-      (one DeliverAnswer s (scene_of trusted between) (
+      (one DeliverAnswer tt s (scene_of trusted between) (
         device,
         epoch,
         page,
@@ -312,7 +312,7 @@ completion_arrives : (trusted : ℕ → Bool) (old : BoardParts) (place device s
 completion_arrives trusted old place device serial closed new takes =
     let same = takes.call.left in
     let s = scene_of trusted old in
-    one CarryMessages s (scene_of trusted new) (
+    one CarryMessages tt s (scene_of trusted new) (
       map message_of (remove old.fabric place),
       (λ message there. inr (map_among message_of (remove old.fabric place) old.fabric (remove_among old.fabric place) message there)),
       scene_is trusted new old.memory (registers_of old.iommu) (contexts_of old.iommu) (translations_of old.iommu) (flights_of old.iommu).rows old.devices (remove old.fabric place)

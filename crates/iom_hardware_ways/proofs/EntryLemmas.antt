@@ -63,7 +63,7 @@ pub drops : (trusted : ℕ → Bool) (old new : BoardParts) (id : ℕ) (cache le
     → ((x : AtsEntry) → Contains (map kept_entry left.entries) x → Contains (map kept_entry cache.entries) x)
     → new ≡ record old { devices = with_cache old.devices id (Some left) } → Comes (scene_of trusted old) (scene_of trusted new)
 drops trusted old new id cache left at next among is =
-    one (DropEntries id) (scene_of trusted old) (scene_of trusted new) (
+    one (DropEntries id) tt (scene_of trusted old) (scene_of trusted new) (
       entries_in (with_cache old.devices id (Some left)),
       entries_among old.devices id cache left at among,
       ap (scene_of trusted) is ∙ with_devices trusted old id (Some left)

@@ -187,7 +187,7 @@ module _ (trusted : ℕ → Bool) (old new : BoardParts) (command : Command) (fa
       let r = registers_of old.iommu in
       let mode = directory_mode r in
       let place = place_at (place_of r (command_head r)) in
-      one DoCommand (scene_of trusted old) (scene_of trusted new) (
+      one DoCommand tt (scene_of trusted old) (scene_of trusted new) (
         place,
         waiting_places (with_command_done r),
         slice_get new.memory,

@@ -4,7 +4,6 @@ use Rattle.std.proofs.lemmas.Bool.Decides.{eqb_tells}
 use Rattle.std.proofs.lemmas.List.Elements.{Contains-push_cases}
 use Rattle.iom_base.specs.Accesses.{offset_of}
 use Rattle.iom_base.specs.Bytes.{with_bytes}
-use Rattle.iom_base.specs.DeviceKinds.{is_any_kind}
 use Rattle.iom_base.specs.declared.access.AcceptedAccess.{AcceptedAccess}
 use Rattle.iom_base.specs.declared.access.AccessKind.{AccessKind}
 use Rattle.iom_base.specs.declared.access.AccessKind.TheVariants.{Read, Write}
@@ -22,11 +21,8 @@ use Rattle.iom_reach.specs.Memory.{DiffersAt}
 use Rattle.iom_reach.specs.Transitions.{AreSomeOf, AreAmongWithOf, IsMemoryAfter, IsHarmless, Make, ComesAbout}
 use Rattle.iom_reach.specs.Scene.{PendingAccess}
 use Rattle.iom_reach.proofs.TransitionLemmas.{contains_head, contains_tail}
-use Rattle.iom_hardware_ways.specs.Calls.{IsMadeHarmlessly}
 use Rattle.iom_hardware_ways.specs.Scenes.{flight_of, flights_in, scene_of}
-use Rattle.iom_hardware_ways.proofs.CarryLemmas.{by_device}
 use Rattle.iom_hardware_ways.proofs.SceneParts.{scene_is}
-use Rattle.iom_hardware_ways.proofs.Turns.{Comes, nothing, one}
 
 -- the rows, where one is another: that device's is the one, and the others' are as they were
 row_cases : (rows : List FlightRow) (id : ℕ) (row own : FlightRow) → row_of rows id ≡ Some row → own.device ≡ row.device → (d : ℕ)
@@ -118,16 +114,20 @@ makes trusted old id made new effect harmless =
     as_flight : MadeAt → PendingAccess
     as_flight m = record { frame = m.frame; kind = m.kind }
 
+-- a commit makes the oldest access of its device, or nothing changes
+abbrev pub MakesOrNothing : (ℕ → Bool) → BoardParts → ℕ → Result (Option MadeAt) Refusal → BoardParts → Type 0
+MakesOrNothing trusted old id answer new =
+    (scene_of trusted new ≡ scene_of trusted old) ⊎ ((made : MadeAt) × (answer ≡ Ok (Some made)) × MakesAccess id old (Some made) new)
+
 pub commits : (trusted : ℕ → Bool) (old : BoardParts) (id : ℕ) (answer : Result (Option MadeAt) Refusal) (new : BoardParts) → CommitsOldestAccess old id answer new
-    → IsMadeHarmlessly trusted old id answer → Comes (scene_of trusted old) (scene_of trusted new)
-commits trusted old id answer new call harmless =
-    by_device trusted is_any_kind (MakesAccess id) old id answer new call (λ given able reply effect. by given reply effect)
+    → MakesOrNothing trusted old id answer new
+commits trusted old id answer new (inl absent) = inl (ap (scene_of trusted) absent.same)
+commits trusted old id answer new (inr (inl other)) = inl (ap (scene_of trusted) other.same)
+commits trusted old id answer new (inr (inr so)) = by so.given so.answered so.call
   where
-    by : (given : Option MadeAt) → answer ≡ Ok given → MakesAccess id old given new → Comes (scene_of trusted old) (scene_of trusted new)
-    by None reply effect = nothing (scene_of trusted old) (scene_of trusted new)
+    by : (given : Option MadeAt) → answer ≡ Ok given → MakesAccess id old given new → MakesOrNothing trusted old id answer new
+    by None reply effect = inl
         (scene_is trusted new old.memory (registers_of old.iommu) (contexts_of old.iommu) (translations_of old.iommu) (flights_of old.iommu).rows old.devices old.fabric
         effect.call.makes.1 (ap (λ parts. parts.registers) effect.call.rest) (ap cached_contexts (ap (λ parts. parts.contexts) effect.call.rest)) (ap ioatc.content (ap (λ parts. parts.translations) effect.call.rest)) (ap (λ (f : Flights). f.rows) effect.call.makes.2)
         effect.devices effect.fabric)
-    by (Some made) reply effect =
-        one (Make id (record { frame = made.frame; kind = made.kind })) (scene_of trusted old) (scene_of trusted new)
-        (makes trusted old id made new effect (subst (IsMadeHarmlessly trusted old id) reply harmless))
+    by (Some made) reply effect = inr (made, reply, effect)

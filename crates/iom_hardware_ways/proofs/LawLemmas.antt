@@ -1,5 +1,5 @@
 -- The laws over lists of calls.
-use Rattle.std.proofs.Common.{◌≡◌, ◌∙◌, ◌+◌, inl, inr, ℕ, Bool, List, [], ◌∷◌, map, Contains, Some, Ok, sym, ap, subst}
+use Rattle.std.proofs.Common.{◌≡◌, ◌∙◌, ◌+◌, ◌++◌, inl, inr, ℕ, Bool, List, [], ◌∷◌, map, Contains, Some, Ok, sym, ap, subst}
 use Rattle.iom_fabric.specs.declared.fabric.OnLink.{OnLink}
 use Rattle.iom_board.specs.Commits.{MakesAccess}
 use Rattle.iom_board.specs.BoardParts.{BoardParts, board_parts}
@@ -11,24 +11,25 @@ use Rattle.iom_registers.specs.declared.registers.Registers.{Registers}
 use Rattle.iom_reach.specs.Memory.{Tables, WalkStep}
 use Rattle.iom_reach.specs.Transitions.{Make, ComesAbout}
 use Rattle.iom_reach.specs.Safe.{IsRead, IsSafe, AreTimely}
-use Rattle.iom_reach.specs.Scene.{AddressSpace, Off, At, Message, Question, Answer, PartialWalk, Place}
+use Rattle.iom_reach.specs.Scene.{AddressSpace, Off, At, Message, Question, Answer, PartialWalk, DirectoryWalk, Place}
 use Rattle.iom_reach.specs.Ways.{WalkBegins, AtRoot, PartWay}
 use Rattle.iom_reach.proofs.LawLemmas.{turns_add_no_way, accesses_had_ways}
 use Rattle.iom_hardware_ways.specs.Calls.{HardwareCall, DoInTurn}
-use Rattle.iom_hardware_ways.specs.Laws.{CallsAddNoWay, MakesIn, MadeAccessesHadWays, QuietStaysQuiet, GoodClaimsHold, FreeStaysFree, BeginsSafe}
+use Rattle.iom_hardware_ways.specs.Laws.{AreTransitions, CallsAddNoWay, MakesIn, MadeAccessesHadWays, QuietStaysQuiet, GoodClaimsHold, FreeStaysFree, BeginsSafe}
 use Rattle.iom_hardware_ways.specs.Scenes.{directory_by, waiting_places, message_of, scene_of}
 use Rattle.iom_hardware_ways.proofs.CallLemmas.{calls_are_transitions}
 use Rattle.iom_hardware_ways.proofs.FlightLemmas.{makes}
 use Rattle.iom_hardware_ways.proofs.ListLemmas.{in_none}
-use Rattle.iom_hardware_ways.proofs.Turns.{Comes, nothing, in_succession}
+use Rattle.iom_hardware_ways.proofs.Turns.{in_turn}
 
 -- a list of calls is a list of transitions
 pub all_occur : (trusted : ℕ → Bool) (calls : List HardwareCall) (events : ℕ) (old new : BoardParts) → DoInTurn trusted events old calls new
-    → Comes (scene_of trusted old) (scene_of trusted new)
-all_occur trusted [] events old new same = nothing (scene_of trusted old) (scene_of trusted new) (ap (scene_of trusted) same)
+    → AreTransitions trusted old new
+all_occur trusted [] events old new same = ([], ap (scene_of trusted) same)
 all_occur trusted (first ∷ others) events old new (invariants, harmless, (between, effect, later)) =
-    in_succession (scene_of trusted old) (scene_of trusted between) (scene_of trusted new)
-    (calls_are_transitions trusted first events old between invariants effect harmless) (all_occur trusted others (events + 1) between new later)
+    let (some, now) = calls_are_transitions trusted first events old between invariants effect harmless in
+    let (rest, then) = all_occur trusted others (events + 1) between new later in
+    (some ++ rest, in_turn some rest (scene_of trusted old) (scene_of trusted between) (scene_of trusted new) now then)
 
 pub calls_add_no_way : CallsAddNoWay
 calls_add_no_way trusted calls events old new safe timely turns =
@@ -73,12 +74,15 @@ module _ (trusted : ℕ → Bool) (frames : ℕ) (disks : List ℕ) (hardware : 
   no_directory tables at = off_at tables (sym (ap (λ (r : Registers). directory_by (directory_mode r) (directory_root r)) on.iommu.registers) ∙ at)
 
   none_begins : (space : AddressSpace) (table : ℕ) (steps_to : ℕ → List WalkStep) → WalkBegins (scene_of trusted (board_parts hardware)) space table steps_to → ⊥
-  none_begins space table steps_to (AtRoot device context tables (plugged, (tree, at), stands) is decide root all) = no_directory tree at
+  none_begins space table steps_to (AtRoot device context tables (plugged, inl ((tree, at), stands)) is decide root all) = no_directory tree at
+  none_begins space table steps_to (AtRoot device context tables (plugged, inr (page, steps, there, ends)) is decide root all) =
+      in_none {X = DirectoryWalk} (record { device = device; table = page; steps = steps }) there
   none_begins space table steps_to (PartWay device there) = in_none {X = PartialWalk} (record { device = device; space = space; table = table; steps_to = steps_to }) there
 
   none_read : (frame : ℕ) → IsRead (scene_of trusted (board_parts hardware)) frame → ⊥
   none_read frame (inl (space, table, steps_to, page, begins, reads)) = none_begins space table steps_to begins
-  none_read frame (inr (inl (device, tables, plugged, at, reads))) = no_directory tables at
+  none_read frame (inr (inl (inl (device, tables, plugged, at, reads)))) = no_directory tables at
+  none_read frame (inr (inl (inr (walk, there, reads)))) = in_none {X = DirectoryWalk} walk there
   none_read frame (inr (inr (offset, there))) =
       in_none {X = Place} (record { frame = frame; offset = offset }) (subst (λ (r : Registers). Contains (waiting_places r) (record { frame = frame; offset = offset })) on.iommu.registers there)
 

@@ -93,7 +93,7 @@ accepted trusted old new id access number Served there accepts memory devices fa
     (scene_is trusted new old.memory (registers_of old.iommu) (contexts_of new.iommu) (translations_of new.iommu) after old.devices old.fabric
     memory (ap (λ parts. parts.registers) accepts.rest) refl refl (ap (λ (f : Flights). f.rows) is.after) devices fabric)
     (in_succession s t last
-    (one (Accept id own) s t
+    (one (Accept id own) tt s t
     (flights, served, accepted_among rows id is.row (record { access = access; frame = accepts.frame }) ((flights_of old.iommu).so_far + 1) is.stands, refl))
     (all_change t id (mappings_in (translations_of new.iommu)) (contexts_in mode (contexts_of new.iommu)) (slice_get old.memory)
     (change_so s flights s.messages (mappings_in (translations_of new.iommu)) change)

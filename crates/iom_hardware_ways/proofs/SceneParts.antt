@@ -27,6 +27,7 @@ scene_by trusted memory r contexts translations rows devices fabric = record {
   contexts = contexts_in (directory_mode r) contexts;
   translations = mappings_in translations;
   partial_walks = [];
+  directory_walks = [];
   ats_entries = λ device. kept_entries (cache_of devices device);
   epoch_of = epoch_in devices;
   messages = map message_of fabric;

@@ -38,7 +38,7 @@ use Rattle.iom_hardware_ways.proofs.WalkLaws.{first_stages_lead, second_stages_l
 
 -- KEYS
 
-abbrev space_back : Space → AddressSpace
+abbrev pub space_back : Space → AddressSpace
 space_back (space.First pscid) = InFirst pscid
 space_back (space.Second gscid) = InSecond gscid
 space_back (space.Both gscid pscid) = InBoth gscid pscid
@@ -72,7 +72,7 @@ one_mapped (Some found) own value same is =
     let f : mapping_of found ≡ value = cc in
     sym f ∙ ap mapping_of e
 
-sets_shown : (old : Translations) (at : SpacePage) (own : Translation) (new : Translations) → Sets old (cached_key at) own new
+pub sets_shown : (old : Translations) (at : SpacePage) (own : Translation) (new : Translations) → Sets old (cached_key at) own new
     → IsPartWith (mappings_in new) at (mapping_of own) (mappings_in old)
 sets_shown old at own new sets key value is = elim (one_or_other (cached_key key) (cached_key at)) [
   | inl same ↦ inl (same_page key at same, one_mapped (new (cached_key key)) own value (ap new same ∙ sets.kept) is)
@@ -83,7 +83,7 @@ sets_shown old at own new sets key value is = elim (one_or_other (cached_key key
 ]
 
 -- a cached translation whose right allows the access is used
-used : (cached : Option Translation) (kind : AccessKind) (own : Translation) → Some own ≡ cached_for cached kind → (cached ≡ Some own) × (allows own.rights kind ≡ true)
+pub used : (cached : Option Translation) (kind : AccessKind) (own : Translation) → Some own ≡ cached_for cached kind → (cached ≡ Some own) × (allows own.rights kind ≡ true)
 used None kind own is = absurd (cc)
 used (Some found) kind own is = by (allows found.rights kind) refl is
   where

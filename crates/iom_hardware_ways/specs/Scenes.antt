@@ -126,6 +126,7 @@ scene_of trusted parts = record {
   contexts = contexts_in (directory_mode (registers_of parts.iommu)) (contexts_of parts.iommu);
   translations = mappings_in (translations_of parts.iommu);
   partial_walks = [];
+  directory_walks = [];
   ats_entries = λ device. kept_entries (cache_of parts.devices device);
   epoch_of = epoch_in parts.devices;
   messages = map message_of parts.fabric;

@@ -4,11 +4,11 @@ use Rattle.iom_base.specs.declared.access.AccessKind.{AccessKind}
 use Rattle.iom_base.specs.declared.access.AccessKind.TheVariants.{Write}
 use Rattle.iom_reach.proofs.WalkLemmas.{alike_ends, alike_reads, passes_here, passes_ends, passes_reads}
 use Rattle.iom_reach.specs.Laws.{AddsNoWay}
-use Rattle.iom_reach.specs.Safe.{IsRead, IsOfTables, IsWritable, HasWord, IsSafe}
-use Rattle.iom_reach.specs.Scene.{Mapping, AddressSpace, Context, Caches, PendingAccess, PartialWalk, Place, HardwareScene, HasDevice}
-use Rattle.iom_reach.specs.Ways.{ServesKind, LeadsToMapping, IsStored, MayFind, IsKept, WalkBegins, AtRoot, PartWay, IsInSpace, Through, ByAts, Untranslated, Translated, Way, Accepted, AnyFrame, ByContext, OnTheWalk}
-use Rattle.iom_reach.specs.Transitions.{IsContinued}
-use Rattle.iom_reach.specs.Memory.{WalkStep, ReadsFrame, Passes}
+use Rattle.iom_reach.specs.Safe.{IsRead, IsOfTables, IsOfDirectory, IsWritable, HasWord, IsSafe}
+use Rattle.iom_reach.specs.Scene.{Mapping, AddressSpace, Context, Caches, PendingAccess, PartialWalk, DirectoryWalk, Place, HardwareScene, HasDevice}
+use Rattle.iom_reach.specs.Ways.{ServesKind, LeadsToMapping, IsStored, IsSought, MayFind, IsKept, WalkBegins, AtRoot, PartWay, IsInSpace, Through, ByAts, Untranslated, Translated, Way, Accepted, AnyFrame, ByContext, OnTheWalk}
+use Rattle.iom_reach.specs.Transitions.{IsContinued, IsSoughtOn}
+use Rattle.iom_reach.specs.Memory.{WalkStep, Ends, ReadsFrame, Passes}
 
 -- the one scene, with all of the other that hardware changes
 abbrev pub with : HardwareScene → HardwareScene → HardwareScene
@@ -18,6 +18,7 @@ with s n = record s {
   contexts = n.contexts;
   translations = n.translations;
   partial_walks = n.partial_walks;
+  directory_walks = n.directory_walks;
   ats_entries = n.ats_entries;
   epoch_of = n.epoch_of;
   messages = n.messages;
@@ -27,12 +28,14 @@ with s n = record s {
 pub record Less (s n : HardwareScene) : Type 0 where
   pub memory : (frame : ℕ) → IsRead s frame → n.memory frame ≡ s.memory frame
   pub waiting : (place : Place) → Contains n.waiting place → Contains s.waiting place
-  pub contexts : (device : ℕ) (context : Context) → n.contexts device ≡ Some context → (s.contexts device ≡ Some context) ⊎ IsStored s device context
+  pub contexts : (device : ℕ) (context : Context) → n.contexts device ≡ Some context
+      → (s.contexts device ≡ Some context) ⊎ (IsStored s device context ⊎ IsSought s device context)
   pub translations : (space : AddressSpace) (page : ℕ) (mapping : Mapping) (frame : ℕ) (kind : AccessKind)
       → n.translations (record { space = space; page = page }) ≡ Some mapping → ServesKind mapping frame kind → IsInSpace s space frame kind
   pub kept : (device page : ℕ) (mapping : Mapping) (frame : ℕ) (kind : AccessKind) → s.kind_of device ≡ Some Caches → IsKept (with s n) device page mapping
       → ServesKind mapping frame kind → IsKept s device page mapping ⊎ Way s device frame kind
   pub partial_walks : (walk : PartialWalk) → Contains n.partial_walks walk → IsContinued s walk
+  pub directory_walks : (walk : DirectoryWalk) → Contains n.directory_walks walk → IsSoughtOn s walk
   pub in_flight : (device : ℕ) (access : PendingAccess) → Contains (n.in_flight device) access → Way s device access.frame access.kind
 
 pub stored : (s n : HardwareScene) (device : ℕ) (context : Context) → Less s n → HasDevice s device → IsStored (with s n) device context → IsStored s device context
@@ -40,12 +43,51 @@ stored s n device context less plugged (tables, at, ends) = (
   tables,
   at,
   alike_ends s.formats.context s.memory n.memory tables.root (s.formats.steps_of tables.levels device) context
-      (λ frame reads. less.memory frame (inr (inl (device, tables, plugged, at, reads)))) ends,
+      (λ frame reads. less.memory frame (inr (inl (inl (device, tables, plugged, at, reads))))) ends,
 )
 
+-- the frames that a walk of the directory reads on are those that it read before
+sought_reads : (s : HardwareScene) (walk : DirectoryWalk) (frame : ℕ) → IsSoughtOn s walk → ReadsFrame s.formats.context s.memory walk.table walk.steps frame → IsOfDirectory s frame
+sought_reads s walk frame (inl (plugged, (tables, at, passes))) reads = inl (
+  walk.device,
+  tables,
+  plugged,
+  at,
+  passes_reads s.formats.context s.memory tables.root (s.formats.steps_of tables.levels walk.device) walk.table walk.steps frame passes reads,
+)
+sought_reads s walk frame (inr (table, steps, there, passes)) reads = inr (
+  record { device = walk.device; table = table; steps = steps },
+  there,
+  passes_reads s.formats.context s.memory table steps walk.table walk.steps frame passes reads,
+)
+
+-- so in memory as it was it ends at the same context
+sought_ends : (s n : HardwareScene) (walk : DirectoryWalk) (context : Context) → Less s n → IsSoughtOn s walk → Ends s.formats.context n.memory walk.table walk.steps context
+    → Ends s.formats.context s.memory walk.table walk.steps context
+sought_ends s n walk context less on ends =
+    alike_ends s.formats.context s.memory n.memory walk.table walk.steps context (λ frame reads. less.memory frame (inr (inl (sought_reads s walk frame on reads)))) ends
+
+-- it was in memory, or sought
+sought : (s : HardwareScene) (walk : DirectoryWalk) (context : Context) → IsSoughtOn s walk → Ends s.formats.context s.memory walk.table walk.steps context
+    → MayFind s walk.device context ⊎ IsSought s walk.device context
+sought s walk context (inl (plugged, (tables, at, passes))) ends = inl (
+  plugged,
+  inl ((tables, at), inr (tables, at, passes_ends s.formats.context s.memory tables.root (s.formats.steps_of tables.levels walk.device) walk.table walk.steps context passes ends)),
+)
+sought s walk context (inr (table, steps, there, passes)) ends =
+    inr (table, steps, there, passes_ends s.formats.context s.memory table steps walk.table walk.steps context passes ends)
+
 pub found : (s n : HardwareScene) (device : ℕ) (context : Context) → Less s n → MayFind (with s n) device context → MayFind s device context
-found s n device context less (plugged, at, inl there) = (plugged, at, less.contexts device context there)
-found s n device context less (plugged, at, inr is) = (plugged, at, inr (stored s n device context less plugged is))
+found s n device context less (plugged, inl (at, inl there)) = elim (less.contexts device context there) [
+  | inl old ↦ (plugged, inl (at, inl old))
+  | inr (inl is) ↦ (plugged, inl (at, inr is))
+  | inr (inr on) ↦ (plugged, inr on)
+]
+found s n device context less (plugged, inl (at, inr is)) = (plugged, inl (at, inr (stored s n device context less plugged is)))
+found s n device context less (plugged, inr (table, steps, there, ends)) =
+    let walk : DirectoryWalk = record { device = device; table = table; steps = steps } in
+    let on = less.directory_walks walk there in
+    elim (sought s walk context on (sought_ends s n walk context less on ends)) [ inl find ↦ find | inr is ↦ (plugged, inr is) ]
 
 -- where a walk may begin that has as much to read, and to come to
 record Began (s : HardwareScene) (space : AddressSpace) (table : ℕ) (steps_to : ℕ → List WalkStep) : Type 0 where
@@ -127,15 +169,19 @@ no_more_read s n frame less (inl (space, table, steps_to, page, begins, reads)) 
     inl (same_tables s n space table steps_to page frame less old
     (alike_reads s.formats.entry s.memory n.memory table (steps_to page) frame
     (λ f r. less.memory f (inl (same_tables s n space table steps_to page f less old r))) reads))
-no_more_read s n frame less (inr (inl (device, tables, plugged, at, reads))) =
-    inr (inl (
+no_more_read s n frame less (inr (inl (inl (device, tables, plugged, at, reads)))) =
+    inr (inl (inl (
       device,
       tables,
       plugged,
       at,
       alike_reads s.formats.context s.memory n.memory tables.root (s.formats.steps_of tables.levels device) frame
-          (λ f r. less.memory f (inr (inl (device, tables, plugged, at, r)))) reads,
-    ))
+          (λ f r. less.memory f (inr (inl (inl (device, tables, plugged, at, r))))) reads,
+    )))
+no_more_read s n frame less (inr (inl (inr (walk, there, reads)))) =
+    let on = less.directory_walks walk there in
+    inr (inl (sought_reads s walk frame on (alike_reads s.formats.context s.memory n.memory walk.table walk.steps frame
+    (λ f r. less.memory f (inr (inl (sought_reads s walk f on r)))) reads)))
 no_more_read s n frame less (inr (inr (offset, there))) = inr (inr (offset, less.waiting (record { frame = frame; offset = offset }) there))
 
 pub no_more_words : (s n : HardwareScene) (frame : ℕ) → Less s n → HasWord (with s n) frame → HasWord s frame

@@ -7,10 +7,10 @@ use Rattle.iom_base.specs.declared.access.AccessKind.TheVariants.{Read, Write}
 use Rattle.iom_reach.proofs.LessLemmas.{Less, with, no_way_more, no_more_read, no_more_words, still_safe}
 use Rattle.iom_reach.specs.Laws.{AddsNoWay, UsesNoMore}
 use Rattle.iom_reach.specs.Memory.{Memory, WalkStep, DiffersAt}
-use Rattle.iom_reach.specs.Transitions.{AreSomeOfOr, AreSomeOf, AreAmongWithOf, IsPartOf, IsPartWith, IsContinued, WalkGives, TranslatesTo, ToItself, ByCache, ByWalk, IsAdmitted, InModeBare, Requested, FromEntry, Forged, Walked, IsHarmless, IsMemoryAfter, IsMemoryBy, IsSendable, with_raised_epoch, Transition, Forget, KeepContext, GoOn, KeepTranslation, Accept, Make, RecordFault, DoCommand, CarryMessages, DeliverAnswer, DropEntries, ComesAbout}
+use Rattle.iom_reach.specs.Transitions.{AreSomeOfOr, AreSomeOf, AreAmongWithOf, IsPartOf, IsPartWith, IsContinued, IsSoughtOn, WalkGives, TranslatesTo, ToItself, ByCache, ByWalk, IsAdmitted, InModeBare, Requested, FromEntry, Forged, Walked, IsHarmless, IsMemoryAfter, IsMemoryBy, IsSendable, with_raised_epoch, Transition, Forget, KeepContext, GoOn, KeepTranslation, Accept, Make, RecordFault, DoCommand, CarryMessages, DeliverAnswer, DropEntries, ComesAbout}
 use Rattle.iom_reach.specs.Safe.{IsRead, IsWritable, IsSafe, AreTimely}
-use Rattle.iom_reach.specs.Scene.{Mapping, AddressSpace, SpacePage, Context, Caches, AtsEntry, PendingAccess, Message, Question, Answer, Other, PartialWalk, Place, HardwareScene}
-use Rattle.iom_reach.specs.Ways.{ServesKind, IsStored, MayFind, WalkBegins, PartWay, IsKept, IsInSpace, ByAts, Untranslated, Translated, Way, Accepted, AnyFrame, ByContext, OnTheWalk}
+use Rattle.iom_reach.specs.Scene.{Mapping, AddressSpace, SpacePage, Context, Caches, AtsEntry, PendingAccess, Message, Question, Answer, Other, PartialWalk, DirectoryWalk, Place, HardwareScene}
+use Rattle.iom_reach.specs.Ways.{ServesKind, IsStored, IsSought, MayFind, WalkBegins, PartWay, IsKept, IsInSpace, ByAts, Untranslated, Translated, Way, Accepted, AnyFrame, ByContext, OnTheWalk}
 use Rattle.iom_reach.proofs.WalkLemmas.{passes_here}
 
 pub contains_tail : {X : Type 0} (x : X) (xs : List X) (y : X) → Contains xs y → Contains (x ∷ xs) y
@@ -36,6 +36,10 @@ continued_by_itself s walk there = (
   (λ page. (page, passes_here s.formats.entry s.memory walk.table (walk.steps_to page))),
 )
 
+-- so does one of the directory
+sought_by_itself : (s : HardwareScene) (walk : DirectoryWalk) → Contains s.directory_walks walk → IsSoughtOn s walk
+sought_by_itself s walk there = inr (walk.table, walk.steps, there, passes_here s.formats.context s.memory walk.table walk.steps)
+
 -- nothing changes
 pub no_less : (s : HardwareScene) → Less s s
 no_less s = record {
@@ -45,6 +49,7 @@ no_less s = record {
   translations = in_cache s s.translations (λ key value there. there);
   kept = λ device page mapping frame kind caches kept serves. inl kept;
   partial_walks = λ walk there. continued_by_itself s walk there;
+  directory_walks = λ walk there. sought_by_itself s walk there;
   in_flight = λ device access there. Accepted there;
 }
 
@@ -95,34 +100,39 @@ forgets s contexts translations fewer others = record {
   translations = in_cache s translations others;
   kept = λ device page mapping frame kind caches kept serves. inl kept;
   partial_walks = λ walk there. continued_by_itself s walk there;
+  directory_walks = λ walk there. sought_by_itself s walk there;
   in_flight = λ device access there. Accepted there;
 }
 
-keeps_context : (s : HardwareScene) (device : ℕ) (context : Context) (kept : ℕ → Option Context) → IsStored s device context
+keeps_context : (s : HardwareScene) (device : ℕ) (context : Context) (kept : ℕ → Option Context) → IsStored s device context ⊎ IsSought s device context
     → IsPartWith kept device context s.contexts → Less s (record s { contexts = kept })
 keeps_context s device context kept stored part = record {
   memory = λ frame read. refl;
   waiting = λ place there. there;
   contexts = λ d c there. elim (part d c there) [
-    | inl (own, same) ↦ inr (subst (λ x. IsStored s x c) (sym own) (subst (λ x. IsStored s device x) (sym same) stored))
+    | inl (own, same) ↦ inr (subst (λ x. IsStored s x c ⊎ IsSought s x c) (sym own) (subst (λ x. IsStored s device x ⊎ IsSought s device x) (sym same) stored))
     | inr old ↦ inl old
   ];
   translations = in_cache s s.translations (λ key value there. there);
   kept = λ device page mapping frame kind caches kept serves. inl kept;
   partial_walks = λ walk there. continued_by_itself s walk there;
+  directory_walks = λ walk there. sought_by_itself s walk there;
   in_flight = λ device access there. Accepted there;
 }
 
-goes_on : (s : HardwareScene) (kept : List PartialWalk) → ((walk : PartialWalk) → Contains kept walk → IsContinued s walk ⊎ Contains s.partial_walks walk)
-    → Less s (record s { partial_walks = kept })
-goes_on s kept from = record {
+goes_on : (s : HardwareScene) (kept : List PartialWalk) (sought : List DirectoryWalk) (left : ℕ → List PendingAccess)
+    → ((walk : PartialWalk) → Contains kept walk → IsContinued s walk ⊎ Contains s.partial_walks walk)
+    → ((walk : DirectoryWalk) → Contains sought walk → IsSoughtOn s walk ⊎ Contains s.directory_walks walk)
+    → AreSomeOf left s.in_flight → Less s (record s { partial_walks = kept; directory_walks = sought; in_flight = left })
+goes_on s kept sought left from on among = record {
   memory = λ frame read. refl;
   waiting = λ place there. there;
   contexts = λ device context there. inl there;
   translations = in_cache s s.translations (λ key value there. there);
   kept = λ device page mapping frame kind caches kept serves. inl kept;
   partial_walks = λ walk there. elim (from walk there) [ inl is ↦ is | inr old ↦ continued_by_itself s walk old ];
-  in_flight = λ device access there. Accepted there;
+  directory_walks = λ walk there. elim (on walk there) [ inl is ↦ is | inr old ↦ sought_by_itself s walk old ];
+  in_flight = λ device access there. Accepted (among device access there);
 }
 
 keeps_translation : (s : HardwareScene) (space : AddressSpace) (table : ℕ) (steps_to : ℕ → List WalkStep) (page : ℕ) (mapping : Mapping) (kept : SpacePage → Option Mapping)
@@ -135,6 +145,7 @@ keeps_translation s space table steps_to page mapping kept begins walked part = 
   translations = λ sp pg m frame kind there serves. by sp pg m frame kind serves (part (record { space = sp; page = pg }) m there);
   kept = λ device page mapping frame kind caches kept serves. inl kept;
   partial_walks = λ walk there. continued_by_itself s walk there;
+  directory_walks = λ walk there. sought_by_itself s walk there;
   in_flight = λ device access there. Accepted there;
 }
   where
@@ -156,6 +167,7 @@ accepts s device access in_flight is among = record {
   translations = in_cache s s.translations (λ key value there. there);
   kept = λ device page mapping frame kind caches kept serves. inl kept;
   partial_walks = λ walk there. continued_by_itself s walk there;
+  directory_walks = λ walk there. sought_by_itself s walk there;
   in_flight = λ d one there. elim (among d one there) [
     | inl (own, same) ↦ subst (λ x. Way s x one.frame one.kind) (sym own)
         (subst (λ (x : PendingAccess). Way s device x.frame x.kind) (sym same) (served s device access.frame access.kind is))
@@ -172,6 +184,7 @@ makes s device access left memory safe there among harmless after = record {
   translations = in_cache s s.translations (λ key value there. there);
   kept = λ device page mapping frame kind caches kept serves. inl kept;
   partial_walks = λ walk there. continued_by_itself s walk there;
+  directory_walks = λ walk there. sought_by_itself s walk there;
   in_flight = λ d one is. Accepted (among d one is);
 }
   where
@@ -192,6 +205,7 @@ records s frame memory safe there differs = record {
   translations = in_cache s s.translations (λ key value there. there);
   kept = λ device page mapping f kind caches kept serves. inl kept;
   partial_walks = λ walk there. continued_by_itself s walk there;
+  directory_walks = λ walk there. sought_by_itself s walk there;
   in_flight = λ device one is. Accepted is;
 }
 
@@ -219,6 +233,7 @@ effect s place later memory contexts translations messages safe head after fewer
   translations = in_cache s translations others;
   kept = λ device page mapping frame kind caches kept serves. inl (same device page mapping kept);
   partial_walks = λ walk there. continued_by_itself s walk there;
+  directory_walks = λ walk there. sought_by_itself s walk there;
   in_flight = λ device one is. Accepted is;
 }
   where
@@ -242,6 +257,7 @@ carries s messages from = record {
   translations = in_cache s s.translations (λ key value there. there);
   kept = λ device page mapping frame kind caches kept serves. by device page mapping frame kind serves kept;
   partial_walks = λ walk there. continued_by_itself s walk there;
+  directory_walks = λ walk there. sought_by_itself s walk there;
   in_flight = λ device one is. Accepted is;
 }
   where
@@ -264,6 +280,7 @@ keeps_entry s device epoch page mapping kept there now among = record {
   translations = in_cache s s.translations (λ key value there. there);
   kept = λ d pg m frame kind caches is serves. inl (by d pg m is);
   partial_walks = λ walk there. continued_by_itself s walk there;
+  directory_walks = λ walk there. sought_by_itself s walk there;
   in_flight = λ device one is. Accepted is;
 }
   where
@@ -301,6 +318,7 @@ drops_entries s device left timely among = record {
   translations = in_cache s s.translations (λ key value there. there);
   kept = λ d page mapping frame kind caches is serves. inl (by d page mapping caches is);
   partial_walks = λ walk there. continued_by_itself s walk there;
+  directory_walks = λ walk there. sought_by_itself s walk there;
   in_flight = λ device one is. Accepted is;
 }
   where
@@ -356,9 +374,9 @@ transitions_add_no_way Forget old new safe timely (contexts, translations, fewer
 transitions_add_no_way (KeepContext device) old new safe timely (context, kept, plugged, stored, part, is) =
     let n = record old { contexts = kept } in
     follows old n new is safe (keeps_context old device context kept stored part) (still_timely old n refl refl timely)
-transitions_add_no_way GoOn old new safe timely (kept, from, is) =
-    let n = record old { partial_walks = kept } in
-    follows old n new is safe (goes_on old kept from) (still_timely old n refl refl timely)
+transitions_add_no_way GoOn old new safe timely (kept, sought, left, from, on, among, is) =
+    let n = record old { partial_walks = kept; directory_walks = sought; in_flight = left } in
+    follows old n new is safe (goes_on old kept sought left from on among) (still_timely old n refl refl timely)
 transitions_add_no_way KeepTranslation old new safe timely (space, table, steps_to, page, mapping, kept, begins, walked, part, is) =
     let n = record old { translations = kept } in
     follows old n new is safe (keeps_translation old space table steps_to page mapping kept begins walked part) (still_timely old n refl refl timely)

@@ -6,7 +6,7 @@ use Rattle.iom_base.specs.Rights.{allows, r}
 use Rattle.iom_reach.proofs.TakenLemmas.{ways_can_be_taken}
 use Rattle.iom_reach.specs.Memory.{Tables}
 use Rattle.iom_reach.specs.Safe.{IsSafe, AreTimely}
-use Rattle.iom_reach.specs.Scene.{Mapping, First, Stages, NoStage, FirstStage, SecondStage, BothStages, Context, Directory, Off, Bare, At, Forges, PendingAccess, PartialWalk, Question, Answer}
+use Rattle.iom_reach.specs.Scene.{Mapping, First, Stages, NoStage, FirstStage, SecondStage, BothStages, Context, Directory, Off, Bare, At, Forges, PendingAccess, PartialWalk, DirectoryWalk, Question, Answer}
 use Rattle.iom_reach.specs.Ways.{tables_of, AtRoot, PartWay, LeadsToMapping, MayFind, ByAts, Untranslated, Translated, Way, Accepted, AnyFrame, ByContext, OnTheWalk}
 use Rattle.iom_reach.specs.Worked.{own_context, other_context, contexts_of_two, scene_of_two, LeadsOnlyTo, SpacesAreShared}
 
@@ -47,8 +47,10 @@ cached_one device context is = by (device == 1) refl (device == 2) refl is
 
 either : (device : ℕ) (context : Context) → MayFind scene_of_two device context
     → ((1 ≡ device) × (own_context ≡ context)) ⊎ ((2 ≡ device) × (other_context ≡ context))
-either device context (plugged, at, inr (tables, is, never)) = absurd never
-either device context (plugged, at, inl there) = cached_one device context there
+either device context (plugged, inl (at, inr (tables, is, never))) = absurd never
+either device context (plugged, inl (at, inl there)) = cached_one device context there
+either device context (plugged, inr (table, steps, there, ends)) =
+    absurd (nothing_in {X = DirectoryWalk} (record { device = device; table = table; steps = steps }) there)
 
 without_ats : (device : ℕ) (context : Context) → MayFind scene_of_two device context → (context.lets_ats ≡ false) × (has_stage context.stages ≡ true)
 without_ats device context find = elim (either device context find) [
@@ -101,10 +103,10 @@ own_leads context tables mapping find is leads = elim (either 1 context find) [
 ]
 
 finds_own : MayFind scene_of_two 1 own_context
-finds_own = ((Forges, refl), (record { root = 0; levels = 1 }, refl), inl refl)
+finds_own = ((Forges, refl), inl ((record { root = 0; levels = 1 }, refl), inl refl))
 
 finds_other : MayFind scene_of_two 2 other_context
-finds_other = ((Forges, refl), (record { root = 0; levels = 1 }, refl), inl refl)
+finds_other = ((Forges, refl), inl ((record { root = 0; levels = 1 }, refl), inl refl))
 
 through_other : Way scene_of_two 1 7 Read
 through_other = ByContext own_context finds_own (Translated (First 5) refl (inr (

@@ -2,7 +2,7 @@
 use Rattle.std.specs.Prelude.{◌≡◌, ◌⊎◌, ℕ, false, ◌≤◌, Contains, List, Some}
 use Rattle.iom_base.specs.declared.access.AccessKind.TheVariants.{Write}
 use Rattle.iom_reach.specs.Memory.{Tables, WalkStep, ReadsFrame}
-use Rattle.iom_reach.specs.Scene.{AddressSpace, Mapping, Place, At, Caches, Question, Answer, HardwareScene, HasDevice}
+use Rattle.iom_reach.specs.Scene.{AddressSpace, Mapping, Place, At, Caches, Question, Answer, DirectoryWalk, HardwareScene, HasDevice}
 use Rattle.iom_reach.specs.Ways.{WalkBegins, Way}
 
 -- a walk that may begin somewhere reads the frame: of both stages that of the second, and not of the guest's own tables
@@ -11,11 +11,12 @@ IsOfTables scene frame =
     (space : AddressSpace) × (table : ℕ) × (steps_to : ℕ → List WalkStep) × (page : ℕ) × WalkBegins scene space table steps_to
     × ReadsFrame scene.formats.entry scene.memory table (steps_to page) frame
 
--- the walk to the context of a device that is plugged in reads the frame
+-- the walk to the context of a device that is plugged in reads the frame, from the root of the directory; or from where it is under way
 abbrev pub IsOfDirectory : HardwareScene → ℕ → Type 0
 IsOfDirectory scene frame =
-    (device : ℕ) × (tables : Tables) × HasDevice scene device × (scene.directory ≡ At tables)
-    × ReadsFrame scene.formats.context scene.memory tables.root (scene.formats.steps_of tables.levels device) frame
+    ((device : ℕ) × (tables : Tables) × HasDevice scene device × (scene.directory ≡ At tables)
+    × ReadsFrame scene.formats.context scene.memory tables.root (scene.formats.steps_of tables.levels device) frame)
+    ⊎ ((walk : DirectoryWalk) × Contains scene.directory_walks walk × ReadsFrame scene.formats.context scene.memory walk.table walk.steps frame)
 
 -- a command that waits stands in the frame
 abbrev pub IsOfQueue : HardwareScene → ℕ → Type 0

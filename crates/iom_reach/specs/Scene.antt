@@ -95,6 +95,15 @@ pub record PartialWalk : Type 0 where
   -- the steps that are left, by the page
   pub steps_to : ℕ → List WalkStep
 
+-- A walk of the directory that is under way: where it ends, the context of its device is found.
+pub record DirectoryWalk : Type 0 where
+  -- whose walk it is
+  pub device : ℕ
+  -- the page of the directory in hand
+  pub table : ℕ
+  -- the steps that are left
+  pub steps : List WalkStep
+
 -- where a command stands: the frame, and the offset there
 pub record Place : Type 0 where
   pub frame : ℕ
@@ -119,6 +128,8 @@ pub record HardwareScene : Type 0 where
   pub translations : SpacePage → Option Mapping
   -- walks under way, and cached pointers to tables
   pub partial_walks : List PartialWalk
+  -- walks of the directory that are under way
+  pub directory_walks : List DirectoryWalk
   -- the caches of the devices, by device
   pub ats_entries : ℕ → List AtsEntry
   -- the epochs of these caches

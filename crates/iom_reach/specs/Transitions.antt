@@ -3,9 +3,9 @@ use Rattle.std.specs.Prelude.{◌≡◌, ◌⊎◌, ℕ, ◌+◌, ◌≤◌, ◌
 use Rattle.iom_base.specs.declared.access.AccessKind.{AccessKind}
 use Rattle.iom_base.specs.declared.access.AccessKind.TheVariants.{Read, Write}
 use Rattle.iom_base.specs.Rights.{allows}
-use Rattle.iom_reach.specs.Memory.{Memory, WalkStep, Passes, DiffersAt}
-use Rattle.iom_reach.specs.Scene.{Mapping, AddressSpace, SpacePage, NoStage, Context, Bare, Forges, Caches, AtsEntry, PendingAccess, Message, Question, Answer, Other, PartialWalk, Place, HardwareScene, HasDevice}
-use Rattle.iom_reach.specs.Ways.{ServesKind, space_of, LeadsToMapping, IsStored, MayFind, WalkBegins}
+use Rattle.iom_reach.specs.Memory.{Memory, Tables, WalkStep, Passes, DiffersAt}
+use Rattle.iom_reach.specs.Scene.{Mapping, AddressSpace, SpacePage, NoStage, Context, Bare, At, Forges, Caches, AtsEntry, PendingAccess, Message, Question, Answer, Other, PartialWalk, DirectoryWalk, Place, HardwareScene, HasDevice}
+use Rattle.iom_reach.specs.Ways.{ServesKind, space_of, LeadsToMapping, IsStored, IsSought, MayFind, WalkBegins}
 use Rattle.iom_reach.specs.Safe.{IsRead}
 
 -- each element is one of the others, or this one
@@ -36,11 +36,11 @@ CachesForget old new =
     × IsPartOf contexts old.contexts × IsPartOf translations old.translations
     × (new ≡ record old { contexts = contexts; translations = translations })
 
--- the directory's context of a device is cached; others may go, also the device's older one
+-- the context of a device that the directory has, or at which a walk ends that is under way, is cached; others may go, also the device's older one
 abbrev pub CachesContext : HardwareScene → ℕ → HardwareScene → Type 0
 CachesContext old device new =
     (context : Context) × (kept : ℕ → Option Context)
-    × HasDevice old device × IsStored old device context
+    × HasDevice old device × (IsStored old device context ⊎ IsSought old device context)
     × IsPartWith kept device context old.contexts
     × (new ≡ record old { contexts = kept })
 
@@ -72,11 +72,23 @@ IsContinued scene walk =
     × ((device : ℕ) → walk.device ≡ Some device → IsOwned scene device walk.space table steps_to)
     × ((page : ℕ) → (to : ℕ) × Passes scene.formats.entry scene.memory table (steps_to to) walk.table (walk.steps_to page))
 
--- walks begin, go on and end, and pointers are cached and forgotten
+-- the same of a walk of the directory: it begins at the root, if its device is plugged in, or where one of that device is under way
+abbrev pub IsSoughtOn : HardwareScene → DirectoryWalk → Type 0
+IsSoughtOn scene walk =
+    (HasDevice scene walk.device
+    × ((tables : Tables) × (scene.directory ≡ At tables)
+    × Passes scene.formats.context scene.memory tables.root (scene.formats.steps_of tables.levels walk.device) walk.table walk.steps))
+    ⊎ ((table : ℕ) × (steps : List WalkStep) × Contains scene.directory_walks (record { device = walk.device; table = table; steps = steps })
+    × Passes scene.formats.context scene.memory table steps walk.table walk.steps)
+
+-- walks begin, go on and end, and pointers are cached and forgotten; and what was let through may be given up before it is made
 abbrev pub WalksGoOn : HardwareScene → HardwareScene → Type 0
 WalksGoOn old new =
-    (kept : List PartialWalk) × ((walk : PartialWalk) → Contains kept walk → IsContinued old walk ⊎ Contains old.partial_walks walk)
-    × (new ≡ record old { partial_walks = kept })
+    (kept : List PartialWalk) × (sought : List DirectoryWalk) × (left : ℕ → List PendingAccess)
+    × ((walk : PartialWalk) → Contains kept walk → IsContinued old walk ⊎ Contains old.partial_walks walk)
+    × ((walk : DirectoryWalk) → Contains sought walk → IsSoughtOn old walk ⊎ Contains old.directory_walks walk)
+    × AreSomeOf left old.in_flight
+    × (new ≡ record old { partial_walks = kept; directory_walks = sought; in_flight = left })
 
 -- what a context translates a page to: anything, where both stages are Bare; a cached translation of its space; or what a walk gives
 pub data TranslatesTo (scene : HardwareScene) (context : Context) (page : ℕ) (mapping : Mapping) : Type 0 where

@@ -34,13 +34,21 @@ IsStored scene device context =
     (tables : Tables) × (scene.directory ≡ At tables)
     × Ends scene.formats.context scene.memory tables.root (scene.formats.steps_of tables.levels device) context
 
--- A request of the device may find this context: the cached one, or the one in memory, since a cache may forget at any time. Neither is looked for in
--- the modes Off and Bare.
-abbrev pub MayFind : HardwareScene → ℕ → Context → Type 0
-MayFind scene device context =
-    HasDevice scene device
-    × ((tables : Tables) × (scene.directory ≡ At tables))
+-- a walk of the directory that is under way for the device ends at this context: also where the directory has another for it now, or is off
+abbrev pub IsSought : HardwareScene → ℕ → Context → Type 0
+IsSought scene device context =
+    (table : ℕ) × (steps : List WalkStep) × Contains scene.directory_walks (record { device = device; table = table; steps = steps })
+    × Ends scene.formats.context scene.memory table steps context
+
+-- the cached context, or the one in memory, since a cache may forget at any time. Neither is looked for in the modes Off and Bare
+abbrev pub IsLookedUp : HardwareScene → ℕ → Context → Type 0
+IsLookedUp scene device context =
+    ((tables : Tables) × (scene.directory ≡ At tables))
     × ((scene.contexts device ≡ Some context) ⊎ IsStored scene device context)
+
+-- A request of the device may find this context: by a look now, or by a walk that is under way.
+abbrev pub MayFind : HardwareScene → ℕ → Context → Type 0
+MayFind scene device context = HasDevice scene device × (IsLookedUp scene device context ⊎ IsSought scene device context)
 
 -- the device has this in its cache, or would take it from an answer under way
 abbrev pub IsKept : HardwareScene → (device page : ℕ) → Mapping → Type 0

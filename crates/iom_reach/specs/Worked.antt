@@ -44,6 +44,7 @@ scene_of_two = record {
   contexts = contexts_of_two;
   translations = λ at. None;
   partial_walks = [];
+  directory_walks = [];
   ats_entries = λ device. [];
   epoch_of = λ device. 0;
   messages = [];

@@ -1,1 +1,3 @@
 pub mod ServiceLemmas
+pub mod RunLemmas
+pub mod RequestLemmas

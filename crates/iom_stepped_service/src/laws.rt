@@ -1,4 +1,5 @@
-//! The law of requests by single loads, the contract of a function that takes laws of those below.
+//! The laws of requests by single loads, each the contract of a function that takes laws of those below.
+ghost use Rattle.iom_stepped_service.specs.Runs.{AnswersAreRequests, RunsAreRequests};
 ghost use Rattle.iom_stepped_service.specs.Service.{RunsServe};
 
 use iom_stepped_requests::laws::{kept_law, whole_law};
@@ -10,4 +11,14 @@ pub fn service_law()
 {
     whole_law();
     kept_law();
+}
+
+/// So of the IOMMU's own calls: a request that begins, and all of whose loads are made before anything else, is answered as
+/// one that is served in one event, and leaves what that leaves (`runs`); and so is one that has its answer when it begins
+/// (`at_once`).
+pub fn request_law()
+    ensures runs { RunsAreRequests }
+    ensures at_once { AnswersAreRequests }
+{
+    service_law();
 }

@@ -10,4 +10,4 @@
 
 mod laws;
 
-pub use laws::service_law;
+pub use laws::{request_law, service_law};

@@ -6,4 +6,5 @@ pub mod Roots
 pub mod Directories
 pub mod NextLoads
 pub mod Flaws
+pub mod Hands
 pub mod Laws

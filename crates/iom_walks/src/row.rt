@@ -1,19 +1,19 @@
 // What is under way of one device.
-ghost use Rattle.std.specs.Prelude.{◌≡◌, ◌≤◌, length, false, is_some, IfOk, Some};
+ghost use Rattle.std.specs.Prelude.{◌≡◌, ◌≤◌, length, false, is_some, option_map, IfOk, Some};
 ghost use Rattle.iom_base.specs.Sizes.{page_size};
 ghost use Rattle.iom_stepped_requests.specs.Standing.{request_of};
 ghost use Rattle.iom_tlb.specs.Content.{TranslationsUnchanged};
 ghost use Rattle.iom_walks.specs.Caches.{LeavesTranslations, to_keep, may_look_in};
 ghost use Rattle.iom_walks.specs.Calls.{RowBeginsAnew, row_walking};
 ghost use Rattle.iom_walks.specs.Rows.{RowLoads};
-ghost use Rattle.iom_walks.specs.Walks.{idle_row, new_row};
+ghost use Rattle.iom_walks.specs.Walks.{UnderWay, idle_row, new_row};
 
 use crate::outcome::Loaded;
 use crate::standing::Standing;
 use iom_base::{DeviceId, FRAME_SIZE};
 use iom_phys_mem::Bytes;
 use iom_registers::DirectoryPointer;
-use iom_stepped_requests::{Kept, RequestWalk, Serving};
+use iom_stepped_requests::{Kept, Request, RequestWalk, Serving};
 use iom_tlb::TransCache;
 use std::alloc::{AllocError, Global};
 use std::marker::Model;
@@ -74,6 +74,26 @@ impl Row {
         ensures { result ≡ self.now.device }
     {
         self.device
+    }
+
+    /// The request that is under way.
+    pub(crate) fn request(&self) -> Option<Request>
+        ensures { result ≡ option_map (λ (own : UnderWay). own.request) self.now.under_way }
+    {
+        match self.standing {
+            Some(standing) => Some(standing.walk.request()),
+            None => None,
+        }
+    }
+
+    /// How far it has come.
+    pub(crate) fn serving(&self) -> Option<Serving>
+        ensures { result ≡ option_map (λ (own : UnderWay). own.serving) self.now.under_way }
+    {
+        match self.standing {
+            Some(standing) => Some(standing.serving()),
+            None => None,
+        }
     }
 
     /// Whether a request is under way.

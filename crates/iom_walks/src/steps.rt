@@ -16,6 +16,16 @@ use iom_stepped_requests::{Answer, Kept, Loaded as Step, Serving};
 use iom_tlb::TransCache;
 
 impl Standing {
+    /// How far the request has come: served already, or where it stands.
+    pub(crate) fn serving(self) -> Serving
+        ensures { result ≡ serving_by self.walk self.served }
+    {
+        match self.served {
+            Some(answer) => Serving::Served(answer),
+            None => Serving::GoesOn(self.walk),
+        }
+    }
+
     /// Its next load: how far the request has come then, and what is to be kept of it. One that is served already makes
     /// none.
     pub(crate) fn load<B: Bytes, C: TransCache>(self, memory: &B, translations: &mut C) -> Step

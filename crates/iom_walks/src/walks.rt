@@ -1,13 +1,14 @@
-ghost use Rattle.std.specs.Prelude.{◌≡◌, length, IfOk, MatchOption, None, [], is_some};
+ghost use Rattle.std.specs.Prelude.{◌≡◌, length, IfOk, MatchOption, None, [], is_some, option_map};
 ghost use Rattle.iom_base.specs.Sizes.{device_limit};
 ghost use Rattle.iom_walks.specs.Calls.{Adds, AllBeginAnew, given_up};
 ghost use Rattle.iom_walks.specs.Invariant.{AreWalks};
 ghost use Rattle.iom_walks.specs.Rows.{RowStandsAt};
-ghost use Rattle.iom_walks.specs.Walks.{bytes_in, row_of, under_way_of};
+ghost use Rattle.iom_walks.specs.Walks.{UnderWay, bytes_in, row_of, under_way_of};
 
 use crate::row::Row;
 use iom_base::{DeviceId, MAX_DEVICES};
 use iom_registers::DirectoryPointer;
+use iom_stepped_requests::{Request, Serving};
 use std::alloc::{AllocError, Global};
 use std::marker::Model;
 
@@ -119,6 +120,26 @@ impl Walks {
         match find(&self.rows, device) {
             Some(place) => self.rows[place].is_walking(),
             None => false,
+        }
+    }
+
+    /// The request of the device that is under way, if one is.
+    pub fn request(&self, device: DeviceId) -> Option<Request>
+        ensures { result ≡ option_map (λ (own : UnderWay). own.request) (under_way_of self.now device) }
+    {
+        match find(&self.rows, device) {
+            Some(place) => self.rows[place].request(),
+            None => None,
+        }
+    }
+
+    /// How far the request of the device has come that is under way, if one is.
+    pub fn serving(&self, device: DeviceId) -> Option<Serving>
+        ensures { result ≡ option_map (λ (own : UnderWay). own.serving) (under_way_of self.now device) }
+    {
+        match find(&self.rows, device) {
+            Some(place) => self.rows[place].serving(),
+            None => None,
         }
     }
 

@@ -148,13 +148,15 @@ module _ (trusted : ℕ → Bool) (parts : BoardParts) where
   may_find id own device (inl is) =
       let (some, (fits, cached)) = both_true (has_directory (mode_in parts)) (fits_directory (mode_in parts) id) (contexts_of parts.iommu id) own is in (
         device,
-        at_of (mode_in parts) (directory_root (registers_of parts.iommu)) some,
-        inl (ap (λ (b : Bool). if b then option_map context_of (contexts_of parts.iommu id) else None) fits ∙ ap (option_map context_of) cached),
+        inl (
+          at_of (mode_in parts) (directory_root (registers_of parts.iommu)) some,
+          inl (ap (λ (b : Bool). if b then option_map context_of (contexts_of parts.iommu id) else None) fits ∙ ap (option_map context_of) cached),
+        ),
       )
   may_find id own device (inr is) =
       let (tables, at, ends) = located_in (mode_in parts) parts.memory (directory_root (registers_of parts.iommu)) id own
       (ok_of (located_by_mode (mode_in parts) parts.memory (directory_root (registers_of parts.iommu)) id) own is) in
-      (device, (tables, at), inr (tables, at, ends))
+      (device, inl ((tables, at), inr (tables, at, ends)))
 
   -- ADDRESS SPACES
 

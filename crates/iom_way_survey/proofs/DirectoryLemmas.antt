@@ -10,7 +10,8 @@ use Rattle.iom_board.specs.BoardParts.{BoardParts}
 use Rattle.iom_iommu.specs.Parts.{registers_of}
 use Rattle.iom_reach.specs.Memory.{Tables, WalkStep, Goes, ReadsFrame}
 use Rattle.iom_reach.specs.Safe.{IsOfTables, IsOfDirectory}
-use Rattle.iom_reach.specs.Scene.{Directory, Off, Bare, At}
+use Rattle.iom_reach.specs.Scene.{Directory, Off, Bare, At, DirectoryWalk}
+use Rattle.iom_hardware_ways.proofs.ListLemmas.{in_none}
 use Rattle.iom_registers.specs.declared.directory.DirectoryMode.{DirectoryMode}
 use Rattle.iom_registers.specs.declared.directory.DirectoryMode.TheVariants as mode
 use Rattle.iom_registers.specs.Queues.{directory_mode, directory_root}
@@ -85,7 +86,8 @@ path_reads mode.ThreeLevels memory root id frame tables is reads =
 
 module _ (trusted : ℕ → Bool) (parts : BoardParts) where
   pub directory_reads : (frame : ℕ) → IsOfDirectory (scene_of trusted parts) frame → DirectoryReads parts frame
-  directory_reads frame (id, tables, device, at, reads) =
+  directory_reads frame (inr (walk, there, reads)) = absurd (in_none {X = DirectoryWalk} walk there)
+  directory_reads frame (inl (id, tables, device, at, reads)) =
       let (plug, found) = plugged trusted parts id device in
       let (k, low, (here, same)) = device_place parts.devices id plug found in (
         k,

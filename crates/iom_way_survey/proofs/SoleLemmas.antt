@@ -1,5 +1,5 @@
 -- What is looked for of the directory, the command queue and the fault queue is there: no frame is invented.
-use Rattle.std.proofs.Common.{◌≡◌, ◌⊎◌, ◌∙◌, inl, inr, ℕ, zero, suc, ◌+◌, ◌*◌, ◌/◌, ◌-◌, ◌<◌, ◌≤◌, Bool, true, false, nat_lt, List, [], ◌∷◌, length, map, ◌==◌, slice_get, Contains, Option, None, Some, Result, Ok, Err, if◌then◌else◌, subst, refl, sym, ap, arith}
+use Rattle.std.proofs.Common.{◌≡◌, ◌⊎◌, ◌∙◌, inl, inr, ℕ, zero, suc, ◌+◌, ◌*◌, ◌/◌, ◌-◌, ◌<◌, ◌≤◌, Bool, true, false, nat_lt, List, [], ◌∷◌, map, slice_get, Contains, Some, Result, Ok, Err, if◌then◌else◌, subst, refl, sym, ap, arith}
 use Rattle.std.specs.List.{range_with_len}
 use Rattle.std.proofs.lemmas.Bool.Decides.{eqb_tells, leb_tells}
 use Rattle.std.proofs.lemmas.Nat.{pow_pos}
@@ -9,15 +9,14 @@ use Rattle.iom_base.specs.declared.cause.Cause.{Cause}
 use Rattle.iom_device.specs.Caches.{device_with}
 use Rattle.iom_device.specs.declared.device.Device.{Device}
 use Rattle.iom_device_dir.specs.Located.{loaded_entry}
-use Rattle.iom_device_dir.specs.Paths.{ddi, ids_below, fits_directory}
+use Rattle.iom_device_dir.specs.Paths.{ddi, ids_below}
 use Rattle.iom_device_dir.specs.declared.entry.NonLeafEntry.{NonLeafEntry}
 use Rattle.iom_board.specs.BoardParts.{BoardParts}
 use Rattle.iom_board.specs.Invariant.{AreOfOneId}
 use Rattle.iom_iommu.specs.Parts.{registers_of}
-use Rattle.iom_phys_mem.specs.Words.{word_at}
 use Rattle.iom_reach.specs.Memory.{Tables, WalkStep, Goes, ReadsFrame}
 use Rattle.iom_reach.specs.Safe.{IsOfDirectory, IsOfQueue, HasWord, IsRead}
-use Rattle.iom_reach.specs.Scene.{Place, At}
+use Rattle.iom_reach.specs.Scene.{At}
 use Rattle.iom_reach.specs.Ways.{Way}
 use Rattle.iom_reach.proofs.TransitionLemmas.{contains_head, contains_tail}
 use Rattle.iom_registers.specs.Fields.{entry_count}
@@ -25,7 +24,7 @@ use Rattle.iom_registers.specs.declared.queue_base.QueueBase.{QueueBase}
 use Rattle.iom_registers.specs.declared.directory.DirectoryMode.{DirectoryMode}
 use Rattle.iom_registers.specs.declared.directory.DirectoryMode.TheVariants as mode
 use Rattle.iom_registers.specs.declared.registers.Registers.{Registers}
-use Rattle.iom_registers.specs.Queues.{directory_mode, directory_root, fault_base, fault_entries, is_fault_queue_on}
+use Rattle.iom_registers.specs.Queues.{directory_mode, directory_root, fault_base, fault_entries}
 use Rattle.iom_hardware_ways.specs.Formats.{word_in, found_non_leaf, context_format, indices_from, steps_of}
 use Rattle.iom_hardware_ways.specs.Scenes.{directory_by, waiting_places, fault_frames_of, scene_of}
 use Rattle.iom_hardware_ways.proofs.FormatLemmas.{non_leaf_there, ddi_low, some_indices}
@@ -114,7 +113,7 @@ module _ (trusted : ℕ → Bool) (parts : BoardParts) where
   directory_back frame (k, low, (device, at, reads)) =
       let (own, found) = found_with parts.devices k device at in
       let (tables, (is, read)) = path_read (directory_mode (registers_of parts.iommu)) parts.memory (directory_root (registers_of parts.iommu)) device.id frame reads in
-      (device.id, tables, has trusted parts device.id own found, is, read)
+      inl (device.id, tables, has trusted parts device.id own found, is, read)
 
   pub queue_back : (frame : ℕ) → IsFrameAmong (waiting_places (registers_of parts.iommu)) frame → IsOfQueue (scene_of trusted parts) frame
   queue_back frame (place, there, is) = (

@@ -26,7 +26,7 @@ use Rattle.iom_iommu.specs.Parts.{registers_of, contexts_of, translation_cache_o
 use Rattle.iom_iommu.specs.Stages.{space_through}
 use Rattle.iom_reach.specs.Memory.{Tables, ReadsFrame, WalkStep}
 use Rattle.iom_reach.specs.Safe.{IsOfTables}
-use Rattle.iom_reach.specs.Scene.{Mapping, AddressSpace, Stages, NoStage, Context, Bare, At, AtsKind, Forges, Caches, AtsEntry, Message, Answer, PendingAccess, PartialWalk, HardwareScene, HasDevice}
+use Rattle.iom_reach.specs.Scene.{Mapping, AddressSpace, Stages, NoStage, Context, Bare, At, AtsKind, Forges, Caches, AtsEntry, Message, Answer, PendingAccess, PartialWalk, DirectoryWalk, HardwareScene, HasDevice}
 use Rattle.iom_reach.specs.Ways.{LeadsToMapping, ServesKind, space_of, tables_of, MayFind, IsKept, LetsThrough, WalkBegins, AtRoot, PartWay, IsInSpace, Through, ByAts as ThroughAts, Untranslated, Translated, Way, Accepted, AnyFrame, ByContext, OnTheWalk}
 use Rattle.iom_registers.specs.declared.directory.DirectoryMode.{DirectoryMode}
 use Rattle.iom_registers.specs.declared.directory.DirectoryMode.TheVariants as mode
@@ -169,7 +169,7 @@ module _ (trusted : ℕ → Bool) (parts : BoardParts) where
   is_at mode.ThreeLevels root tables is = refl
 
   pub found_in : (id : ℕ) (context : Context) → MayFind S id context → (own : DeviceContext) × Finds parts id own × (context_of own ≡ context)
-  found_in id context (device, (tables, at), inl cached) =
+  found_in id context (device, inl ((tables, at), inl cached)) =
       let (own, fits, (here, same)) = shown_from (fits_directory (mode_in parts) id) (contexts_of parts.iommu id) context cached in
       let some = is_at (mode_in parts) (directory_root (registers_of parts.iommu)) tables at in (
         own,
@@ -177,9 +177,11 @@ module _ (trusted : ℕ → Bool) (parts : BoardParts) where
             ∙ ap (λ (b : Bool). if true && b then contexts_of parts.iommu id else None) fits ∙ here),
         same,
       )
-  found_in id context (device, at, inr (tables, is, ends)) =
+  found_in id context (device, inl (at, inr (tables, is, ends))) =
       let (own, finds, same) = directories_are_found parts.memory (registers_of parts.iommu).ddtp id tables context is ends in
       (own, inr (ap found_of (finds_by (mode_in parts) parts.memory (directory_root (registers_of parts.iommu)) id own finds)), same)
+  found_in id context (device, inr (table, steps, there, ends)) =
+      absurd (in_none {X = DirectoryWalk} (record { device = id; table = table; steps = steps }) there)
 
   -- ADDRESS SPACES
 

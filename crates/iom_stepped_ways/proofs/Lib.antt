@@ -1,0 +1,16 @@
+pub mod FrameLemmas
+pub mod DirectoryLemmas
+pub mod TableLemmas
+pub mod GrowLemmas
+pub mod CacheLemmas
+pub mod ReplyLemmas
+pub mod StageLemmas
+pub mod LoadLemmas
+pub mod BeginLemmas
+pub mod AnewLemmas
+pub mod StepLemmas
+pub mod SizeLemmas
+pub mod CallLemmas
+pub mod SceneLemmas
+pub mod LawLemmas
+pub mod KindLemmas
