@@ -4,7 +4,7 @@
 # It wants gcc.
 set -eu
 here=$(cd "$(dirname "$0")" && pwd)
-program=$(cd "$(dirname "$1")" && pwd)/$(basename "$1")
+program=$(cd "$(dirname "${1:?usage: harness.sh PROGRAM}")" && pwd)/$(basename "$1")
 work=$(mktemp -d)
 trap 'rm -rf "$work"' EXIT
 gcc -std=gnu11 -Wall -Wextra -Werror -O2 -o "$work/map_unmap" "$here/../examples/harness/map_unmap.c"

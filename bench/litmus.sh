@@ -2,7 +2,7 @@
 # Answers each worked litmus test with a built iommu-litmus, and compares the answer up to how many places were looked at. Says how long each took.
 #     bench/litmus.sh PROGRAM [NAME..]
 set -eu
-program=$(realpath "$1")
+program=$(realpath "${1:?usage: litmus.sh PROGRAM [NAME..]}")
 shift
 cd "$(dirname "$0")/../crates/iom_litmus_worked/data/tests"
 [ $# -gt 0 ] || set -- *.litmus

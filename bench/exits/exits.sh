@@ -2,7 +2,8 @@
 # Runs the built program so that it ends in each way that it can, and compares its exit status and what it writes on
 # standard error. exits.sh PROGRAM
 set -u
-program=$(realpath "${1:?usage: exits.sh PROGRAM}")
+: "${1:?usage: exits.sh PROGRAM}"
+program=$(realpath "$1")
 work=$(mktemp -d)
 trap 'rm -rf "$work"' EXIT
 cd "$work" || exit 2

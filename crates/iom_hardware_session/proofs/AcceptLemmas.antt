@@ -39,7 +39,8 @@ use Rattle.iom_tlb.specs.Content.{Key, Translations}
 use Rattle.iom_tlb.specs.declared.space.Space.{Space}
 use Rattle.iom_tlb.specs.declared.space.Space.TheVariants as space
 use Rattle.iom_tlb.specs.declared.trans_cache.Translation.{Translation}
-use Rattle.iom_way_survey.specs.Found.{found_of, has_directory, mode_in}
+use Rattle.iom_way_survey.specs.Found.{has_directory, mode_in}
+use Rattle.iom_way_survey.specs.Walking.{found_of}
 
 some_is : {X : Type 0} (x y : X) → Some x ≡ Some y → x ≡ y
 some_is x y e = cc

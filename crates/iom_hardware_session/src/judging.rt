@@ -34,7 +34,7 @@ impl Session {
         if self.hardware.board.memory.frames() > MAX_FRAMES {
             return false;
         }
-        self.survey.look(&self.hardware.board, &self.trusted);
+        self.survey.look(&self.hardware.board, None, &self.trusted);
         true
     }
 

@@ -2,6 +2,7 @@
 use Rattle.std.proofs.Common.{◌≡◌, inl, inr, ℕ, ◌++◌, Bool, List, [], Contains, Option, None, Some, refl, sym, ap, ◌∙◌}
 use Rattle.std.proofs.lemmas.List.Elements.{Contains-append_left, Contains-append_right, Contains-append_cases}
 use Rattle.std.proofs.lemmas.Bool.Decides.{eqb_tells}
+use Rattle.iom_base.specs.declared.access.AccessKind.TheVariants.{Read}
 use Rattle.iom_board.specs.BoardParts.{BoardParts}
 use Rattle.iom_stepped_board.proofs.BesideLemmas.{others_walk, own_walk}
 use Rattle.iom_stepped_requests.specs.Serving.{Remaining, Serves, Locates, Translates}
@@ -11,7 +12,7 @@ use Rattle.iom_stepped_requests.specs.declared.request.Answer.TheVariants.{AsItI
 use Rattle.iom_stepped_requests.specs.declared.request.Request.{Request}
 use Rattle.iom_walks.specs.Calls.{given_up}
 use Rattle.iom_walks.specs.Walks.{UnderWay, WalkRow, idle_row, row_of, under_way_of, with_row}
-use Rattle.iom_reach.specs.Scene.{PartialWalk, DirectoryWalk}
+use Rattle.iom_reach.specs.Scene.{PartialWalk, DirectoryWalk, PendingAccess}
 use Rattle.iom_reach.specs.Transitions.{GoOn, IsContinued, IsSoughtOn}
 use Rattle.iom_hardware_ways.proofs.ListLemmas.{in_none}
 use Rattle.iom_hardware_ways.proofs.Turns.{Comes, one}
@@ -29,40 +30,52 @@ pub still_added : (frames : ℕ) (a b : Added) (own : Request) (remaining : Rema
 still_added frames a b own (Serves answer) has = let_through_more a b own answer has
 still_added frames a b own (Locates request anew rest) (same, (id, level, page, is, there)) =
     (same, (id, level, page, is, Contains-append_left a.directory_walks b.directory_walks (walk_in_page request.device id level page) there))
-still_added frames a b own (Translates request context translated rest) (same, (parts, is, there)) = (
+still_added frames a b own (Translates request context translated rest) (same, (list, entries, is, there, reads)) = (
   same,
   (
-    parts,
+    list,
+    entries,
     is,
     (λ part within.
         Contains-append_left a.partial_walks b.partial_walks (walk_of_part request.device (address_space translated) part) (there part within)),
+    (λ frame within. Contains-append_left (a.let_through request.device) (b.let_through request.device) (access_on frame Read) (reads frame within)),
   ),
 )
 
--- walks begin or go on in the scene
+-- walks begin or go on in the scene, and nothing is let through beside them
+pub walks_grow_beside : (trusted : ℕ → Bool) (parts : BoardParts) (a : Added) (more : List PartialWalk) (sought : List DirectoryWalk)
+    (through : ℕ → List PendingAccess) → ((device : ℕ) (access : PendingAccess) → Contains (through device) access → ⊥)
+    → ((walk : PartialWalk) → Contains more walk → IsContinued (with_added (scene_of trusted parts) a) walk)
+    → ((walk : DirectoryWalk) → Contains sought walk → IsSoughtOn (with_added (scene_of trusted parts) a) walk)
+    → Comes (with_added (scene_of trusted parts) a)
+    (with_added (scene_of trusted parts) (added_and a (record { partial_walks = more; directory_walks = sought; let_through = through })))
+walks_grow_beside trusted parts a more sought through none continues on =
+    let s = scene_of trusted parts in
+    let b : Added = record { partial_walks = more; directory_walks = sought; let_through = through } in
+    one GoOn tt (with_added s a) (with_added s (added_and a b)) (
+      a.partial_walks ++ more,
+      a.directory_walks ++ sought,
+      (λ d. s.in_flight d ++ (a.let_through d ++ through d)),
+      (λ walk there. elim (Contains-append_cases a.partial_walks more walk there) [ inl old ↦ inr old | inr new ↦ inl (continues walk new) ]),
+      (λ walk there. elim (Contains-append_cases a.directory_walks sought walk there) [ inl old ↦ inr old | inr new ↦ inl (on walk new) ]),
+      (λ d access there. elim (Contains-append_cases (s.in_flight d) (a.let_through d ++ through d) access there) [
+        | inl flies ↦ Contains-append_left (s.in_flight d) (a.let_through d) access flies
+        | inr later ↦ elim (Contains-append_cases (a.let_through d) (through d) access later) [
+          | inl old ↦ Contains-append_right (s.in_flight d) (a.let_through d) access old
+          | inr never ↦ absurd (none d access never)
+        ]
+      ]),
+      refl,
+    )
+
+-- walks alone
 pub walks_grow : (trusted : ℕ → Bool) (parts : BoardParts) (a : Added) (more : List PartialWalk) (sought : List DirectoryWalk)
     → ((walk : PartialWalk) → Contains more walk → IsContinued (with_added (scene_of trusted parts) a) walk)
     → ((walk : DirectoryWalk) → Contains sought walk → IsSoughtOn (with_added (scene_of trusted parts) a) walk)
     → Comes (with_added (scene_of trusted parts) a)
     (with_added (scene_of trusted parts) (added_and a (record { partial_walks = more; directory_walks = sought; let_through = λ device. [] })))
 walks_grow trusted parts a more sought continues on =
-    let s = scene_of trusted parts in
-    let b : Added = record { partial_walks = more; directory_walks = sought; let_through = λ device. [] } in
-    one GoOn tt (with_added s a) (with_added s (added_and a b)) (
-      a.partial_walks ++ more,
-      a.directory_walks ++ sought,
-      (λ d. s.in_flight d ++ (a.let_through d ++ [])),
-      (λ walk there. elim (Contains-append_cases a.partial_walks more walk there) [ inl old ↦ inr old | inr new ↦ inl (continues walk new) ]),
-      (λ walk there. elim (Contains-append_cases a.directory_walks sought walk there) [ inl old ↦ inr old | inr new ↦ inl (on walk new) ]),
-      (λ d access there. elim (Contains-append_cases (s.in_flight d) (a.let_through d ++ []) access there) [
-        | inl flies ↦ Contains-append_left (s.in_flight d) (a.let_through d) access flies
-        | inr through ↦ elim (Contains-append_cases (a.let_through d) [] access through) [
-          | inl old ↦ Contains-append_right (s.in_flight d) (a.let_through d) access old
-          | inr never ↦ absurd (in_none access never)
-        ]
-      ]),
-      refl,
-    )
+    walks_grow_beside trusted parts a more sought (λ device. []) (λ device access never. in_none access never) continues on
 
 -- WHAT IS UNDER WAY, device by device
 

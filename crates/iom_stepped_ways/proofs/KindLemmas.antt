@@ -5,7 +5,7 @@ use Rattle.iom_walks.specs.Walks.{WalkRow}
 use Rattle.iom_stepped_ways.proofs.CallLemmas.{stepped_calls_are_transitions}
 use Rattle.iom_stepped_ways.proofs.SceneLemmas.{covered_are_for_kinds, scenes_cover}
 use Rattle.iom_stepped_ways.specs.Calls.{SteppedCall, Alone, Begin, Load, TranslatedBeside, ThroughCacheBeside, FetchBeside, ResetBeside, SteppedEffect, SteppedInvariant, IsByHardware}
-use Rattle.iom_stepped_ways.specs.Laws.{KindsStay}
+use Rattle.iom_stepped_ways.specs.Laws.{KindsOutliveSoftware, KindsStay}
 use Rattle.iom_stepped_ways.specs.Scenes.{AreForKinds, stepped_scene}
 
 -- a device that nobody trusts
@@ -31,3 +31,7 @@ kinds_stay (FetchBeside fetched) events old new rows new_rows invariants effect 
     stays (FetchBeside fetched) tt events old new rows new_rows invariants effect for
 kinds_stay (ResetBeside id answer) events old new rows new_rows invariants effect for =
     stays (ResetBeside id answer) tt events old new rows new_rows invariants effect for
+
+-- what is left after software has acted is for its kind as it was
+pub kinds_outlive_software : KindsOutliveSoftware
+kinds_outlive_software rows new_rows left for id under_way is = for id under_way (left id under_way is)

@@ -2,6 +2,7 @@ pub mod FrameLemmas
 pub mod DirectoryLemmas
 pub mod TableLemmas
 pub mod GrowLemmas
+pub mod EntryLemmas
 pub mod CacheLemmas
 pub mod ReplyLemmas
 pub mod StageLemmas

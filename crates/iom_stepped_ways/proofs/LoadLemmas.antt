@@ -1,6 +1,7 @@
 -- One load of a request that is under way, by what remains of it: what is added, what is kept, and whether its access is let in.
 use Rattle.std.proofs.Common.{◌≡◌, ◌∙◌, inl, inr, ℕ, zero, suc, Bool, List, [], ◌∷◌, map, length, Contains, Some, Result, Ok, Err, refl, sym, ap, subst}
 use Rattle.std.proofs.lemmas.List.Elements.{Contains-append_left, Contains-append_right}
+use Rattle.iom_base.specs.declared.access.AccessKind.TheVariants.{Read}
 use Rattle.iom_base.specs.declared.cause.Cause.{Cause}
 use Rattle.iom_board.specs.BoardParts.{BoardParts}
 use Rattle.iom_device_dir.specs.declared.context.Context.{Context as DeviceContext}
@@ -34,6 +35,7 @@ use Rattle.iom_hardware_ways.proofs.Turns.{Comes}
 use Rattle.iom_reach.proofs.TransitionLemmas.{contains_head}
 use Rattle.iom_stepped_ways.proofs.CacheLemmas.{IsFoundToKeep}
 use Rattle.iom_stepped_ways.proofs.DirectoryLemmas.{GoesOnInDirectory, FindsInDirectory, StopsInDirectory, directory_load}
+use Rattle.iom_stepped_ways.proofs.EntryLemmas.{are_read, entries_let_in, walks_with}
 use Rattle.iom_stepped_ways.proofs.GrowLemmas.{walks_grow}
 use Rattle.iom_stepped_ways.proofs.ReplyLemmas.{IsLetIn}
 use Rattle.iom_stepped_ways.proofs.StageLemmas.{found_serves, found_walks}
@@ -124,19 +126,21 @@ module _ (trusted : ℕ → Bool) (parts : BoardParts) (a : Added) (own : Reques
       )
 
   -- in tables
-  through_tables : (request : Request) (context : DeviceContext) (translated : Space) (rest : Rest) (list : List Part) (walk : RequestWalk) (now : Rest) → request ≡ own
-      → IsWalkOf frames request.asked.kind rest list
+  through_tables : (request : Request) (context : DeviceContext) (translated : Space) (rest : Rest) (list : List Part) (entries : List ℕ)
+      (walk : RequestWalk) (now : Rest) → request ≡ own → IsWalkOf frames request.asked.kind rest list entries
       → ((part : Part) → Contains list part → Contains a.partial_walks (walk_of_part request.device (address_space translated) part))
       → after_load parts.memory rest ≡ now → stands frames walk ≡ in_tables request context translated now → GoesOn (Translates request context translated rest) walk
-  through_tables request context translated rest list walk (Ends answer) same walks there loads stand = absurd (no_answer frames walk (answer_of answer) stand)
-  through_tables request context translated rest list walk (ReadsContext address next) same walks there loads stand =
+  through_tables request context translated rest list entries walk (Ends answer) same walks there loads stand =
+      absurd (no_answer frames walk (answer_of answer) stand)
+  through_tables request context translated rest list entries walk (ReadsContext address next) same walks there loads stand =
       absurd (no_context frames walk request context translated address next stand)
-  through_tables request context translated rest list walk (ReadsEntry address next) same walks there loads stand =
-      let (on, still, passes) = table_goes_on parts.memory frames request.asked.kind rest list address next walks loads in
+  through_tables request context translated rest list entries walk (ReadsEntry address next) same walks there loads stand =
+      let (on, entries_then, still, passes, leads) = table_goes_on parts.memory frames request.asked.kind rest list entries address next walks loads in
       let kept_in = address_space translated in
-      let more = map (walk_of_part request.device kept_in) on in (
-        walks_alone more,
-        walks_grow trusted parts a more []
+      let more = map (walk_of_part request.device kept_in) on in
+      let b = walks_with more request.device entries_then in (
+        b,
+        entries_let_in trusted parts a more request.device entries_then
             (λ part among.
             let (new, new_there, is) = map_cases (walk_of_part request.device kept_in) on part among in
             let (from, from_there, pass) = passes new new_there in
@@ -147,16 +151,22 @@ module _ (trusted : ℕ → Bool) (parts : BoardParts) (a : Added) (own : Reques
               (λ device mine. inr (subst (λ d. Contains a.partial_walks (walk_of_part d kept_in from)) (some_same request.device device mine) (there from from_there))),
               pass,
             ))
-            (λ other none. absurd (in_none other none)),
-        subst (HasAdded frames (added_and a (walks_alone more)) own) (sym stand) (
+            (λ frame within.
+            let (part, leaf, among, leads_there, is, allowed) = leads frame within in
+            (kept_in, part.table, part.steps_to, leaf, there part among, leads_there, is, allowed)),
+        subst (HasAdded frames (added_and a b) own) (sym stand) (
           same,
           (
             on,
-            subst (λ r. IsWalkOf frames request.asked.kind r on) loads still,
+            entries_then,
+            subst (λ r. IsWalkOf frames request.asked.kind r on entries_then) loads still,
             (λ part among. Contains-append_right a.partial_walks more (walk_of_part request.device kept_in part) (contains_map (walk_of_part request.device kept_in) on part among)),
+            (λ frame within.
+                Contains-append_right (a.let_through request.device) (b.let_through request.device) (access_on frame Read)
+                (are_read request.device entries_then frame within)),
           ),
         ),
-        subst (IsFoundToKeep (grown (walks_alone more))) (sym (ap (kept_in_tables request translated) loads)) tt,
+        subst (IsFoundToKeep (grown b)) (sym (ap (kept_in_tables request translated) loads)) tt,
       )
     where
       some_same : (one other : ℕ) → Some one ≡ Some other → one ≡ other
@@ -170,8 +180,8 @@ module _ (trusted : ℕ → Bool) (parts : BoardParts) (a : Added) (own : Reques
     | inr (inr (cause, stops)) ↦
         absurd (no_answer frames walk (Faults (plain cause)) (stand ∙ ap (in_directory frames anew cached request) (ap (after_load parts.memory) is ∙ stops)))
   ]
-  load_goes_on (Translates request context translated rest) walk (same, (list, walks, there)) stand =
-      through_tables request context translated rest list walk (after_load parts.memory rest) same walks there refl stand
+  load_goes_on (Translates request context translated rest) walk (same, (list, entries, walks, there, reads)) stand =
+      through_tables request context translated rest list entries walk (after_load parts.memory rest) same walks there refl stand
 
   -- THE REQUEST HAS ITS ANSWER: it is let in where it has a translation, and this may be kept
   abbrev pub IsLetInBy : Answer → Type 0
@@ -222,18 +232,18 @@ module _ (trusted : ℕ → Bool) (parts : BoardParts) (a : Added) (own : Reques
   same_page walked t is = cc
 
   -- its walk of tables ends
-  ends_in_tables : (request : Request) (context : DeviceContext) (translated : Space) (rest : Rest) (list : List Part) (answer : Answer) (now : Rest) → request ≡ own
-      → IsWalkOf frames request.asked.kind rest list
+  ends_in_tables : (request : Request) (context : DeviceContext) (translated : Space) (rest : Rest) (list : List Part) (entries : List ℕ)
+      (answer : Answer) (now : Rest) → request ≡ own → IsWalkOf frames request.asked.kind rest list entries
       → ((part : Part) → Contains list part → Contains a.partial_walks (walk_of_part request.device (address_space translated) part))
       → after_load parts.memory rest ≡ now → Serves answer ≡ in_tables request context translated now → EndsSo (Translates request context translated rest) answer
-  ends_in_tables request context translated rest list answer (ReadsContext address next) same walks there loads serves = let no : ⊥ = cc in absurd no
-  ends_in_tables request context translated rest list answer (ReadsEntry address next) same walks there loads serves = let no : ⊥ = cc in absurd no
-  ends_in_tables request context translated rest list answer (Ends (Err fault)) same walks there loads serves = (
+  ends_in_tables request context translated rest list entries answer (ReadsContext address next) same walks there loads serves = let no : ⊥ = cc in absurd no
+  ends_in_tables request context translated rest list entries answer (ReadsEntry address next) same walks there loads serves = let no : ⊥ = cc in absurd no
+  ends_in_tables request context translated rest list entries answer (Ends (Err fault)) same walks there loads serves = (
     subst (IsFoundToKeep S) (sym (ap (kept_in_tables request translated) loads)) tt,
     subst IsLetInBy (sym (serves_same (Faults fault) answer (sym serves))) (λ t reply. let no : ⊥ = cc in absurd no),
   )
-  ends_in_tables request context translated rest list answer (Ends (Ok walked)) same walks there loads serves =
-      let (part, leaf, among, leads, frame, rights, right) = table_ends parts.memory frames request.asked.kind rest list walked walks loads in
+  ends_in_tables request context translated rest list entries answer (Ends (Ok walked)) same walks there loads serves =
+      let (part, leaf, among, leads, frame, rights, right) = table_ends parts.memory frames request.asked.kind rest list entries walked walks loads in
       let kept_in = address_space translated in (
         subst (IsFoundToKeep S) (sym (ap (kept_in_tables request translated) loads))
             (part.table, part.steps_to, PartWay (Some request.device) (there part among), (leaf, leads, frame, rights)),
@@ -252,5 +262,5 @@ module _ (trusted : ℕ → Bool) (parts : BoardParts) (a : Added) (own : Reques
     | inr (inl finds) ↦ ends_at_context request anew rest id level page answer same is there finds serves
     | inr (inr stops) ↦ ends_in_directory request anew rest id level page answer is stops serves
   ]
-  load_ends (Translates request context translated rest) answer (same, (list, walks, there)) serves =
-      ends_in_tables request context translated rest list answer (after_load parts.memory rest) same walks there refl serves
+  load_ends (Translates request context translated rest) answer (same, (list, entries, walks, there, reads)) serves =
+      ends_in_tables request context translated rest list entries answer (after_load parts.memory rest) same walks there refl serves

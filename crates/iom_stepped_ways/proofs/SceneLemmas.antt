@@ -33,11 +33,12 @@ use Rattle.iom_reach.specs.Scene.{HardwareScene}
 use Rattle.iom_hardware_ways.specs.Scenes.{scene_of}
 use Rattle.iom_hardware_ways.proofs.ListLemmas.{contains_map, same_function}
 use Rattle.iom_stepped_ways.proofs.AnewLemmas.{AllAdded, by_id, is_own}
+use Rattle.iom_stepped_ways.proofs.EntryLemmas.{are_read}
 use Rattle.iom_stepped_ways.proofs.GrowLemmas.{still_added}
 use Rattle.iom_stepped_ways.proofs.TableLemmas.{found_alone}
 use Rattle.iom_stepped_ways.specs.Laws.{CoveredAreForKinds, ScenesCover, ScenesOutliveSoftware, WholeScenesCover}
 use Rattle.iom_stepped_ways.specs.Parts.{Rest, Part, IsWalkOf, InFirstStage, InSecondStage, ToGuestEntry, InGuestTable, ToGuestPage}
-use Rattle.iom_stepped_ways.specs.Scenes.{Added, AreForKinds, HasAdded, HasLetThrough, IsForKind, access_on, added_and, added_by, added_by_answer, added_if_any, added_of, address_space, asked_by, nothing_added, parts_of, walk_in_page, walk_of_part}
+use Rattle.iom_stepped_ways.specs.Scenes.{Added, AreForKinds, HasAdded, HasLetThrough, IsForKind, access_on, added_and, added_by, added_by_answer, added_if_any, added_of, address_space, asked_by, entries_of, nothing_added, parts_of, walk_in_page, walk_of_part}
 
 -- MORE IS ADDED BEFORE IT
 let_through_after : (a b : Added) (request : Request) (answer : Answer) → HasLetThrough b request answer → HasLetThrough (added_and a b) request answer
@@ -50,13 +51,15 @@ added_after : (frames : ℕ) (a b : Added) (own : Request) (remaining : Remainin
 added_after frames a b own (Serves answer) has = let_through_after a b own answer has
 added_after frames a b own (Locates request anew rest) (same, (id, level, page, is, there)) =
     (same, (id, level, page, is, Contains-append_right a.directory_walks b.directory_walks (walk_in_page request.device id level page) there))
-added_after frames a b own (Translates request context translated rest) (same, (parts, is, there)) = (
+added_after frames a b own (Translates request context translated rest) (same, (list, entries, is, there, reads)) = (
   same,
   (
-    parts,
+    list,
+    entries,
     is,
     (λ part within.
         Contains-append_right a.partial_walks b.partial_walks (walk_of_part request.device (address_space translated) part) (there part within)),
+    (λ frame within. Contains-append_right (a.let_through request.device) (b.let_through request.device) (access_on frame Read) (reads frame within)),
   ),
 )
 
@@ -68,21 +71,23 @@ all_after frames a b (row ∷ rows) (own, others) =
 -- WHAT A WALK ADDS is what remains of it
 
 -- of tables
-walks_of : (frames : ℕ) (kind : AccessKind) (walk : TableWalk) → (asked_by walk).kind ≡ kind → IsWalkOf frames kind (rest_of frames walk) (parts_of walk)
+walks_of : (frames : ℕ) (kind : AccessKind) (walk : TableWalk) → (asked_by walk).kind ≡ kind
+    → IsWalkOf frames kind (rest_of frames walk) (parts_of walk) (entries_of walk)
 walks_of frames kind (stands.InFirstStage asked place) same =
-    subst (λ k. IsWalkOf frames k (rest_of frames (stands.InFirstStage asked place)) (parts_of (stands.InFirstStage asked place))) same
-    (InFirstStage place.table.number (indices_of place asked.address) refl refl)
+    subst (λ k. IsWalkOf frames k (rest_of frames (stands.InFirstStage asked place)) (parts_of (stands.InFirstStage asked place)) []) same
+    (InFirstStage place.table.number (indices_of place asked.address) refl refl refl)
 walks_of frames kind (stands.InSecondStage asked place) same =
-    subst (λ k. IsWalkOf frames k (rest_of frames (stands.InSecondStage asked place)) (parts_of (stands.InSecondStage asked place))) same
-    (InSecondStage asked.address place.table.number (indices_of place asked.address) refl refl)
+    subst (λ k. IsWalkOf frames k (rest_of frames (stands.InSecondStage asked place)) (parts_of (stands.InSecondStage asked place)) []) same
+    (InSecondStage asked.address place.table.number (indices_of place asked.address) refl refl refl)
 walks_of frames kind (stands.ToGuestEntry both entry place) same =
     ToGuestEntry (in_both frames both) (filled_places entry.loaded.frames) entry.table.number (entry_index entry both.asked.address) (entries_below entry both.asked.address)
-    place.table.number (indices_of place (address_of entry both.asked.address)) same refl refl
+    place.table.number (indices_of place (address_of entry both.asked.address)) same refl refl refl
 walks_of frames kind (stands.InGuestTable both entry frame) same =
-    InGuestTable (in_both frames both) (filled_places entry.loaded.frames) entry.table.number (entry_index entry both.asked.address) (entries_below entry both.asked.address) frame same refl refl
+    InGuestTable (in_both frames both) (filled_places entry.loaded.frames) entry.table.number (entry_index entry both.asked.address)
+    (entries_below entry both.asked.address) frame same refl refl refl
 walks_of frames kind (stands.ToGuestPage both page place) same =
     ToGuestPage (in_both frames both) (filled_places page.loaded.frames) page.number page.rights page.level place.table.number (indices_of place (guest_address page.number both.asked.address))
-    same refl refl
+    same refl refl refl
 
 answered : (request : Request) (answer : Answer) → HasLetThrough (added_by_answer request answer) request answer
 answered request AsItIs = is_own request.device (access_on _ request.asked.kind)
@@ -98,8 +103,10 @@ one_added frames own (GoesOn (InTables request context translated walk)) same as
   same,
   (
     parts_of walk,
+    entries_of walk,
     walks_of frames request.asked.kind walk (asked ∙ ap (λ (r : Request). r.asked.kind) (sym same)),
     (λ part there. contains_map (walk_of_part request.device (address_space translated)) (parts_of walk) part there),
+    are_read request.device (entries_of walk),
   ),
 )
 
@@ -161,11 +168,12 @@ whole_scenes_cover trusted parts rows idle = record {
 }
 
 pub scenes_outlive_software : ScenesOutliveSoftware
-scenes_outlive_software trusted trusted' old new rows scene covers size = record {
+scenes_outlive_software trusted trusted' old new rows new_rows scene covers size left = record {
   added = covers.added;
   is = refl;
   walks = λ id under_way is.
-      subst (λ frames. HasAdded frames covers.added under_way.request (still_serving frames under_way.serving)) (sym size) (covers.walks id under_way is);
+      subst (λ frames. HasAdded frames covers.added under_way.request (still_serving frames under_way.serving)) (sym size)
+      (covers.walks id under_way (left id under_way is));
 }
 
 -- EACH WALK THAT IS COVERED IS FOR ITS KIND: outside memory its next load would tell that
@@ -209,25 +217,27 @@ told_second frames table asks kind found stopped [] cause says is = let no : ⊥
 told_second frames table asks kind found stopped (i ∷ left) cause says is =
     let e : (stopped (access_fault_of kind)).cause ≡ cause = cc in sym says ∙ e
 
-told_of_parts : (frames : ℕ) (kind : AccessKind) (rest : Rest) (parts : List Part) (cause : Cause) → IsWalkOf frames kind rest parts → told rest ≡ Some cause → access_fault_of kind ≡ cause
-told_of_parts frames kind rest parts cause (InFirstStage table left is all) tells = told_first frames table kind left cause (ap told (sym is) ∙ tells)
-told_of_parts frames kind rest parts cause (InSecondStage address table left is all) tells =
+told_of_parts : (frames : ℕ) (kind : AccessKind) (rest : Rest) (parts : List Part) (entries : List ℕ) (cause : Cause) → IsWalkOf frames kind rest parts entries
+    → told rest ≡ Some cause → access_fault_of kind ≡ cause
+told_of_parts frames kind rest parts entries cause (InFirstStage table left is all none) tells =
+    told_first frames table kind left cause (ap told (sym is) ∙ tells)
+told_of_parts frames kind rest parts entries cause (InSecondStage address table left is all none) tells =
     told_second frames table kind kind (λ frame rights level. Ends (Ok (found_alone frame rights level))) (λ c. reported c address false) left cause (reported_access kind address false) (ap told (sym is) ∙ tells)
-told_of_parts frames kind rest parts cause (ToGuestEntry w loaded guest i below table left same is all) tells =
+told_of_parts frames kind rest parts entries cause (ToGuestEntry w loaded guest i below table left same is all none) tells =
     ap access_fault_of (sym same) ∙ told_second w.frames table Read w.kind (λ frame rights level. guest_load w loaded guest i below (λ next. guest_down w (loaded ++ frame ∷ []) next below) frame) (λ c. reported c (entry_address (slot guest i)) true) left cause (reported_access w.kind (entry_address (slot guest i)) true) (ap told (sym is) ∙ tells)
-told_of_parts frames kind rest parts cause (InGuestTable w loaded guest i below frame same is all) tells =
+told_of_parts frames kind rest parts entries cause (InGuestTable w loaded guest i below frame same is all loads) tells =
     let e : Some (access_fault_of w.kind) ≡ Some cause = ap told (sym is) ∙ tells in
     let f : access_fault_of w.kind ≡ cause = cc in
     ap access_fault_of (sym same) ∙ f
-told_of_parts frames kind rest parts cause (ToGuestPage w loaded page given level table left same is all) tells =
+told_of_parts frames kind rest parts entries cause (ToGuestPage w loaded page given level table left same is all none) tells =
     ap access_fault_of (sym same) ∙ told_second w.frames table w.kind w.kind (reached w loaded given level) (λ c. reported c (guest_address page w.address) false) left cause (reported_access w.kind (guest_address page w.address) false) (ap told (sym is) ∙ tells)
 
 for_kind : (frames : ℕ) (a : Added) (own : Request) (serving : Serving) → HasAdded frames a own (still_serving frames serving) → IsForKind own serving
 for_kind frames a own (Served answer) has = tt
 for_kind frames a own (GoesOn (InDirectory request anew walk)) has = tt
-for_kind frames a own (GoesOn (InTables request context translated walk)) (same, (list, walks, there)) =
+for_kind frames a own (GoesOn (InTables request context translated walk)) (same, (list, entries, walks, there, reads)) =
     same_kind (asked_by walk).kind own.asked.kind
-    (sym (told_of_parts frames request.asked.kind (rest_of frames walk) list (access_fault_of (asked_by walk).kind) walks (told_of_walk frames walk))
+    (sym (told_of_parts frames request.asked.kind (rest_of frames walk) list entries (access_fault_of (asked_by walk).kind) walks (told_of_walk frames walk))
     ∙ ap (λ (r : Request). access_fault_of r.asked.kind) same)
 
 pub covered_are_for_kinds : CoveredAreForKinds

@@ -42,7 +42,7 @@ use Rattle.iom_reach.specs.Transitions.{IsAdmitted, IsContinued, Requested, ToIt
 use Rattle.iom_reach.specs.Ways.{MayFind, AtRoot, space_of}
 use Rattle.iom_hardware_ways.specs.Formats.{context_of, stages_in, steps_in}
 use Rattle.iom_hardware_ways.specs.Scenes.{mapping_of, scene_of}
-use Rattle.iom_hardware_ways.proofs.ListLemmas.{contains_map, map_cases}
+use Rattle.iom_hardware_ways.proofs.ListLemmas.{contains_map, in_none, map_cases}
 use Rattle.iom_hardware_ways.proofs.TranslationLemmas.{own_frame}
 use Rattle.iom_stepped_ways.proofs.CacheLemmas.{space_named}
 use Rattle.iom_stepped_ways.proofs.TableLemmas.{found_alone, guest_begins, lead_begins, tables_begin}
@@ -201,8 +201,10 @@ module _ (trusted : ℕ → Bool) (parts : BoardParts) (a : Added) (request : Re
           refl,
           (
             list,
-            subst (λ rest. IsWalkOf (length parts.memory) request.asked.kind rest list) loads walks,
+            [],
+            subst (λ rest. IsWalkOf (length parts.memory) request.asked.kind rest list []) loads walks,
             (λ own among. Contains-append_right a.partial_walks more (walk_of_part request.device kept_in own) (contains_map (walk_of_part request.device kept_in) list own among)),
+            (λ frame none. absurd (in_none frame none)),
           ),
         ),
       )

@@ -157,15 +157,26 @@ abbrev PassesOn : List (List ℕ) → List Part → Part → Type 0
 PassesOn memory parts part =
     (from : Part) × Contains parts from × ((page : ℕ) → (to : ℕ) × Passes entry_format (slice_get memory) from.table (from.steps_to to) part.table (part.steps_to page))
 
--- what remains, if it goes on, has parts that each do
+-- one of these leads to the frame, for reads
+abbrev pub IsLedTo : List (List ℕ) → List Part → ℕ → Type 0
+IsLedTo memory parts frame =
+    (part : Part) × (leaf : Mapping) × Contains parts part × LeadsToMapping formats (slice_get memory) part.table part.steps_to leaf
+    × (leaf.frame ≡ frame) × (allows leaf.rights Read ≡ true)
+
+-- what remains, if it goes on, has parts that each do, and a guest's entry to which one of those before led
 abbrev GoesOn : List (List ℕ) → ℕ → AccessKind → List Part → Rest → Type 0
 GoesOn memory frames kind parts rest =
     (address : ℕ) (next : Option ℕ → Rest) → rest ≡ ReadsEntry address next
-    → (on : List Part) × IsWalkOf frames kind rest on × ((part : Part) → Contains on part → PassesOn memory parts part)
+    → (on : List Part) × (entries : List ℕ) × IsWalkOf frames kind rest on entries × ((part : Part) → Contains on part → PassesOn memory parts part)
+    × ((frame : ℕ) → Contains entries frame → IsLedTo memory parts frame)
 
 -- one that has ended doesn't
 no_end_on : (memory : List (List ℕ)) (frames : ℕ) (kind : AccessKind) (parts : List Part) (answer : Result Walked WalkFault) → GoesOn memory frames kind parts (Ends answer)
 no_end_on memory frames kind parts answer address next is = let no : ⊥ = cc in absurd no
+
+-- where it stands at no guest's entry
+no_entry : (memory : List (List ℕ)) (parts : List Part) (frame : ℕ) → Contains [] frame → IsLedTo memory parts frame
+no_entry memory parts frame none = absurd (in_none frame none)
 
 -- what is found in one stage
 abbrev pub found_alone : ℕ → Rights → ℕ → Walked
@@ -186,6 +197,15 @@ along_passes : (memory : List (List ℕ)) (table : ℕ) (left : List ℕ) (other
     → Passes entry_format (slice_get memory) table (map step_at left) next (map step_at below) → PassesOn memory (part_along table left ∷ others) (part_along next below)
 along_passes memory table left others next below passes = (part_along table left, contains_head (part_along table left) others, λ page. (0, passes))
 
+-- a leaf that allows reads leads to a guest's entry in its frame
+entry_is_led_to : (memory : List (List ℕ)) (table : ℕ) (left : List ℕ) (others : List Part) (leaf : Mapping)
+    → LeadsTo entry_format (slice_get memory) table (map step_at left) leaf → allows leaf.rights Read ≡ true
+    → (frame : ℕ) → Contains (leaf.frame ∷ []) frame → IsLedTo memory (part_along table left ∷ others) frame
+entry_is_led_to memory table left others leaf leads allowed frame within = elim (cons_cases leaf.frame [] frame within) [
+  | inl same ↦ (part_along table left, leaf, contains_head (part_along table left) others, (0, leads), same, allowed)
+  | inr none ↦ absurd (in_none frame none)
+]
+
 module _ (memory : List (List ℕ)) (frames : ℕ) (kind : AccessKind) where
   -- in a first stage alone
   first_goes_on : (table : ℕ) (left : List ℕ) → GoesOn memory frames kind (part_along table left ∷ []) (after_load memory (first_rest frames kind table left))
@@ -195,8 +215,10 @@ module _ (memory : List (List ℕ)) (frames : ℕ) (kind : AccessKind) where
       frames kind (page_fault_of kind) (access_fault_of kind) (λ frame rights level. Ends (Ok (found_alone frame rights level))) (plain (access_fault_of kind)) plain table left
       (λ next below passes address rest is. (
         part_along next below ∷ [],
-        InFirstStage next below refl refl,
+        [],
+        InFirstStage next below refl refl refl,
         each_of_one (PassesOn memory parts) (part_along next below) (along_passes memory table left [] next below passes),
+        no_entry memory parts,
       ))
       (λ leaf level leads allowed. no_end_on memory frames kind parts (Ok (found_alone leaf.frame leaf.rights level)))
 
@@ -209,8 +231,10 @@ module _ (memory : List (List ℕ)) (frames : ℕ) (kind : AccessKind) where
       (reported (access_fault_of kind) own false) (λ cause. reported cause own false) table left
       (λ next below passes address rest is. (
         part_along next below ∷ [],
-        InSecondStage own next below refl refl,
+        [],
+        InSecondStage own next below refl refl refl,
         each_of_one (PassesOn memory parts) (part_along next below) (along_passes memory table left [] next below passes),
+        no_entry memory parts,
       ))
       (λ leaf level leads allowed. no_end_on memory frames kind parts (Ok (found_alone leaf.frame leaf.rights level)))
 
@@ -227,14 +251,18 @@ module _ (memory : List (List ℕ)) (frames : ℕ) (kind : AccessKind) where
       (reported (access_fault_of w.kind) (entry_address (slot guest i)) true) (λ cause. reported cause (entry_address (slot guest i)) true) table left
       (λ next lower passes address rest is. (
         part_along next lower ∷ part_from_root w ∷ [],
-        ToGuestEntry w loaded guest i below next lower same refl refl,
+        [],
+        ToGuestEntry w loaded guest i below next lower same refl refl refl,
         each_of_two (PassesOn memory parts) (part_along next lower) (part_from_root w)
             (along_passes memory table left (part_from_root w ∷ []) next lower passes) (root_stays memory w parts among),
+        no_entry memory parts,
       ))
       (λ leaf level leads allowed address rest is. (
         part_from_root w ∷ [],
-        InGuestTable w loaded guest i below leaf.frame same refl refl,
+        leaf.frame ∷ [],
+        InGuestTable w loaded guest i below leaf.frame same refl refl refl,
         each_of_one (PassesOn memory parts) (part_from_root w) (root_stays memory w parts among),
+        entry_is_led_to memory table left (part_from_root w ∷ []) leaf leads allowed,
       ))
 
   -- at that entry
@@ -248,18 +276,22 @@ module _ (memory : List (List ℕ)) (frames : ℕ) (kind : AccessKind) where
       (λ loaded' table is. guest_begins (GoesOn memory frames kind parts) memory errs w loaded' table is
       (λ j lower address rest is. (
         part_along w.second (second_path w.levels' (entry_address (slot table j))) ∷ part_from_root w ∷ [],
-        ToGuestEntry w loaded' table j lower w.second (second_path w.levels' (entry_address (slot table j))) same refl refl,
+        [],
+        ToGuestEntry w loaded' table j lower w.second (second_path w.levels' (entry_address (slot table j))) same refl refl refl,
         each_of_two (PassesOn memory parts) (part_along w.second (second_path w.levels' (entry_address (slot table j)))) (part_from_root w)
             (along_from_root memory w (entry_address (slot table j)) parts among) (root_stays memory w parts among),
+        no_entry memory parts,
       )))
       (λ loaded' page given level.
       lead_begins (GoesOn memory frames kind parts) memory errs w.frames w.levels' w.second w.kind w.kind (reached w loaded' given level)
       (λ cause. reported cause (guest_address page w.address) false) (guest_address page w.address)
       (λ address rest is. (
         part_along w.second (second_path w.levels' (guest_address page w.address)) ∷ [],
-        ToGuestPage w loaded' page given level w.second (second_path w.levels' (guest_address page w.address)) same refl refl,
+        [],
+        ToGuestPage w loaded' page given level w.second (second_path w.levels' (guest_address page w.address)) same refl refl refl,
         each_of_one (PassesOn memory parts) (part_along w.second (second_path w.levels' (guest_address page w.address)))
             (along_from_root memory w (guest_address page w.address) parts among),
+        no_entry memory parts,
       )))
 
   -- on the way to the page
@@ -272,31 +304,35 @@ module _ (memory : List (List ℕ)) (frames : ℕ) (kind : AccessKind) where
       (reported (access_fault_of w.kind) (guest_address page w.address) false) (λ cause. reported cause (guest_address page w.address) false) table left
       (λ next lower passes address rest is. (
         part_along next lower ∷ [],
-        ToGuestPage w loaded page given level next lower same refl refl,
+        [],
+        ToGuestPage w loaded page given level next lower same refl refl refl,
         each_of_one (PassesOn memory parts) (part_along next lower) (along_passes memory table left [] next lower passes),
+        no_entry memory parts,
       ))
       (λ leaf level' leads allowed address rest is. let no : ⊥ = cc in absurd no)
 
   -- whichever walk it is
-  walk_goes_on : (rest : Rest) (parts : List Part) → IsWalkOf frames kind rest parts → GoesOn memory frames kind parts (after_load memory rest)
-  walk_goes_on rest parts (InFirstStage table left is are) =
+  walk_goes_on : (rest : Rest) (parts : List Part) (entries : List ℕ) → IsWalkOf frames kind rest parts entries
+      → GoesOn memory frames kind parts (after_load memory rest)
+  walk_goes_on rest parts entries (InFirstStage table left is are none) =
       in_place (λ r ps. GoesOn memory frames kind ps (after_load memory r)) is are (first_goes_on table left)
-  walk_goes_on rest parts (InSecondStage own table left is are) =
+  walk_goes_on rest parts entries (InSecondStage own table left is are none) =
       in_place (λ r ps. GoesOn memory frames kind ps (after_load memory r)) is are (second_goes_on own table left)
-  walk_goes_on rest parts (ToGuestEntry w loaded guest i below table left same is are) =
+  walk_goes_on rest parts entries (ToGuestEntry w loaded guest i below table left same is are none) =
       in_place (λ r ps. GoesOn memory frames kind ps (after_load memory r)) is are (entry_goes_on w loaded guest i below table left same)
-  walk_goes_on rest parts (InGuestTable w loaded guest i below frame same is are) =
+  walk_goes_on rest parts entries (InGuestTable w loaded guest i below frame same is are there) =
       in_place (λ r ps. GoesOn memory frames kind ps (after_load memory r)) is are (guest_goes_on w loaded guest i below frame same)
-  walk_goes_on rest parts (ToGuestPage w loaded page given level table left same is are) =
+  walk_goes_on rest parts entries (ToGuestPage w loaded page given level table left same is are none) =
       in_place (λ r ps. GoesOn memory frames kind ps (after_load memory r)) is are (page_goes_on w loaded page given level table left same)
 
--- one load of a walk that goes on: each of its parts passes on from one of the parts before
-pub table_goes_on : (memory : List (List ℕ)) (frames : ℕ) (kind : AccessKind) (rest : Rest) (parts : List Part) (address : ℕ) (next : Option ℕ → Rest) → IsWalkOf frames kind rest parts
-    → after_load memory rest ≡ ReadsEntry address next
-    → (on : List Part) × IsWalkOf frames kind (after_load memory rest) on
+-- one load of a walk that goes on: each of its parts passes on from one of the parts before, and to a guest's entry one of those led
+pub table_goes_on : (memory : List (List ℕ)) (frames : ℕ) (kind : AccessKind) (rest : Rest) (parts : List Part) (entries : List ℕ) (address : ℕ)
+    (next : Option ℕ → Rest) → IsWalkOf frames kind rest parts entries → after_load memory rest ≡ ReadsEntry address next
+    → (on : List Part) × (entries_then : List ℕ) × IsWalkOf frames kind (after_load memory rest) on entries_then
     × ((part : Part) → Contains on part → (from : Part) × Contains parts from
     × ((page : ℕ) → (to : ℕ) × Passes entry_format (slice_get memory) from.table (from.steps_to to) part.table (part.steps_to page)))
-table_goes_on memory frames kind rest parts address next walk is = walk_goes_on memory frames kind rest parts walk address next is
+    × ((frame : ℕ) → Contains entries_then frame → IsLedTo memory parts frame)
+table_goes_on memory frames kind rest parts entries address next walk is = walk_goes_on memory frames kind rest parts entries walk address next is
 
 -- A WALK THAT ENDS
 
@@ -410,32 +446,33 @@ module _ (memory : List (List ℕ)) (frames : ℕ) (kind : AccessKind) where
       leads (subst (λ k. allows leaf.rights k ≡ true) same allowed) refl (λ k both. second_allows given leaf.rights k w.kind allowed both))
 
   -- whichever walk it is
-  walk_there : (rest : Rest) (parts : List Part) → IsWalkOf frames kind rest parts → LedThere memory kind parts (after_load memory rest)
-  walk_there rest parts (InFirstStage table left is are) =
+  walk_there : (rest : Rest) (parts : List Part) (entries : List ℕ) → IsWalkOf frames kind rest parts entries
+      → LedThere memory kind parts (after_load memory rest)
+  walk_there rest parts entries (InFirstStage table left is are none) =
       in_place (λ r ps. LedThere memory kind ps (after_load memory r)) is are (first_there table left)
-  walk_there rest parts (InSecondStage own table left is are) =
+  walk_there rest parts entries (InSecondStage own table left is are none) =
       in_place (λ r ps. LedThere memory kind ps (after_load memory r)) is are (second_there own table left)
-  walk_there rest parts (ToGuestEntry w loaded guest i below table left same is are) =
+  walk_there rest parts entries (ToGuestEntry w loaded guest i below table left same is are none) =
       in_place (λ r ps. LedThere memory kind ps (after_load memory r)) is are (entry_there_not w loaded guest i below (part_along table left ∷ part_from_root w ∷ []) table left)
-  walk_there rest parts (InGuestTable w loaded guest i below frame same is are) =
+  walk_there rest parts entries (InGuestTable w loaded guest i below frame same is are there) =
       in_place (λ r ps. LedThere memory kind ps (after_load memory r)) is are (guest_there_not w loaded guest i below (part_from_root w ∷ []) frame)
-  walk_there rest parts (ToGuestPage w loaded page given level table left same is are) =
+  walk_there rest parts entries (ToGuestPage w loaded page given level table left same is are none) =
       in_place (λ r ps. LedThere memory kind ps (after_load memory r)) is are (page_there w loaded page given level table left same)
 
 -- one that ends at a page: one of its parts leads to the leaf
-pub table_ends : (memory : List (List ℕ)) (frames : ℕ) (kind : AccessKind) (rest : Rest) (parts : List Part) (walked : Walked) → IsWalkOf frames kind rest parts
-    → after_load memory rest ≡ Ends (Ok walked)
+pub table_ends : (memory : List (List ℕ)) (frames : ℕ) (kind : AccessKind) (rest : Rest) (parts : List Part) (entries : List ℕ) (walked : Walked)
+    → IsWalkOf frames kind rest parts entries → after_load memory rest ≡ Ends (Ok walked)
     → (part : Part) × (leaf : Mapping) × Contains parts part × LeadsToMapping formats (slice_get memory) part.table part.steps_to leaf × (walked.frame ≡ leaf.frame)
     × ((k : AccessKind) → allows walked.rights k ≡ true → allows leaf.rights k ≡ true) × (allows leaf.rights kind ≡ true)
-table_ends memory frames kind rest parts walked walk is = walk_there memory frames kind rest parts walk walked is
+table_ends memory frames kind rest parts entries walked walk is = walk_there memory frames kind rest parts entries walk walked is
 
 -- A WALK THAT BEGINS
 
--- what remains, if it needs a load, has parts that each pass on from the root of the tables that decide
+-- what remains, if it needs a load, has parts that each pass on from the root of the tables that decide, and stands at no guest's entry
 abbrev Begins : List (List ℕ) → ℕ → AccessKind → ReachStages → AddressSpace → Rest → Type 0
 Begins memory frames kind within named rest =
     (first : ℕ) (next : Option ℕ → Rest) → rest ≡ ReadsEntry first next
-    → (parts : List Part) × (tables : Tables) × IsWalkOf frames kind rest parts × (space_of within ≡ Some named) × (tables_of within ≡ Some tables)
+    → (parts : List Part) × (tables : Tables) × IsWalkOf frames kind rest parts [] × (space_of within ≡ Some named) × (tables_of within ≡ Some tables)
     × ((part : Part) → Contains parts part → (page : ℕ) → (to : ℕ) × Passes entry_format (slice_get memory) tables.root (steps_in within to) part.table (part.steps_to page))
 
 -- a fault needs none
@@ -454,7 +491,7 @@ module _ (memory : List (List ℕ)) (frames : ℕ) (address : ℕ) (kind : Acces
       begins first next is = (
         part_along root (first_path levels address) ∷ [],
         record { root = root; levels = levels },
-        InFirstStage root (first_path levels address) refl refl,
+        InFirstStage root (first_path levels address) refl refl refl,
         refl,
         refl,
         each_of_one (λ part. (page : ℕ) → (to : ℕ) × Passes entry_format (slice_get memory) root (steps_in within to) part.table (part.steps_to page))
@@ -474,7 +511,7 @@ module _ (memory : List (List ℕ)) (frames : ℕ) (address : ℕ) (kind : Acces
       (λ first next is. (
         part_along root (second_path levels address) ∷ [],
         record { root = root; levels = levels },
-        InSecondStage address root (second_path levels address) refl refl,
+        InSecondStage address root (second_path levels address) refl refl refl,
         refl,
         refl,
         each_of_one (λ part. (page : ℕ) → (to : ℕ) × Passes entry_format (slice_get memory) root (steps_in within to) part.table (part.steps_to page))
@@ -507,7 +544,7 @@ module _ (memory : List (List ℕ)) (frames : ℕ) (address : ℕ) (kind : Acces
       begins i below first next is = (
         part_along root (second_path levels' (entry i)) ∷ part_from_root w ∷ [],
         record { root = root; levels = levels' },
-        ToGuestEntry w [] guest i below root (second_path levels' (entry i)) refl refl refl,
+        ToGuestEntry w [] guest i below root (second_path levels' (entry i)) refl refl refl refl,
         refl,
         refl,
         each_of_two FromRoot (part_along root (second_path levels' (entry i))) (part_from_root w)
@@ -539,7 +576,7 @@ module _ (memory : List (List ℕ)) (frames : ℕ) (address : ℕ) (kind : Acces
 -- a walk of the tables of a context begins at their root
 pub tables_begin : (memory : List (List ℕ)) (frames : ℕ) (context : DeviceContext) (stages : Stages) (address : ℕ) (kind : AccessKind) (first : ℕ) (next : Option ℕ → Rest)
     → stages_of context.first_stage context.second_stage ≡ Some stages → walk_of frames stages address kind ≡ ReadsEntry first next
-    → (parts : List Part) × (tables : Tables) × IsWalkOf frames kind (walk_of frames stages address kind) parts
+    → (parts : List Part) × (tables : Tables) × IsWalkOf frames kind (walk_of frames stages address kind) parts []
     × (space_of (context_of context).stages ≡ Some (address_space (named_space context stages)))
     × (tables_of (context_of context).stages ≡ Some tables)
     × ((part : Part) → Contains parts part → (page : ℕ) → (to : ℕ)

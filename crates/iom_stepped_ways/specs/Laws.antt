@@ -6,7 +6,7 @@ use Rattle.iom_inflight.specs.declared.made.MadeAt.{MadeAt}
 use Rattle.iom_ledger.specs.History.{History, May}
 use Rattle.iom_base.specs.declared.access.AccessKind.{AccessKind}
 use Rattle.iom_walks.specs.Invariant.{AreWalks}
-use Rattle.iom_walks.specs.Walks.{WalkRow, under_way_of}
+use Rattle.iom_walks.specs.Walks.{UnderWay, WalkRow, under_way_of}
 use Rattle.iom_reach.specs.Laws.{AddsNoWay, UsesNoMore, Permission, HasAllowedWaysAlone, IsOutOfReach}
 use Rattle.iom_reach.specs.Safe.{IsSafe, AreTimely}
 use Rattle.iom_reach.specs.Scene.{HardwareScene}
@@ -34,11 +34,20 @@ KindsStay = (call : SteppedCall) (events : ℕ) (old new : BoardParts) (rows new
 abbrev pub WholeScenesCover : Type 0
 WholeScenesCover = (trusted : ℕ → Bool) (parts : BoardParts) (rows : List WalkRow) → ((id : ℕ) → under_way_of rows id ≡ None) → Covers trusted parts rows (scene_of trusted parts)
 
--- Whatever software does to memory, registers and devices: a scene with what was added before covers what is under way then. So between two loads tables and the
--- directory may change, and what a walk has in hand stays a way
+-- what is under way then was so before, and stands where it stood
+abbrev pub AreLeft : List WalkRow → List WalkRow → Type 0
+AreLeft rows new_rows = (id : ℕ) (under_way : UnderWay) → under_way_of new_rows id ≡ Some under_way → under_way_of rows id ≡ Some under_way
+
+-- Whatever software does to memory of this size, to registers and to devices, and whatever of what is under way is given up by it: a scene with what was added
+-- before covers what is under way then. So between two loads tables and the directory may change, and what a walk has in hand stays a way
 abbrev pub ScenesOutliveSoftware : Type 0
-ScenesOutliveSoftware = (trusted trusted' : ℕ → Bool) (old new : BoardParts) (rows : List WalkRow) (scene : HardwareScene) (covers : Covers trusted old rows scene)
-    → length new.memory ≡ length old.memory → Covers trusted' new rows (with_added (scene_of trusted' new) covers.added)
+ScenesOutliveSoftware = (trusted trusted' : ℕ → Bool) (old new : BoardParts) (rows new_rows : List WalkRow) (scene : HardwareScene)
+    (covers : Covers trusted old rows scene) → length new.memory ≡ length old.memory → AreLeft rows new_rows
+    → Covers trusted' new new_rows (with_added (scene_of trusted' new) covers.added)
+
+-- and each walk is still for the kind of access that its request asks for
+abbrev pub KindsOutliveSoftware : Type 0
+KindsOutliveSoftware = (rows new_rows : List WalkRow) → AreLeft rows new_rows → AreForKinds rows → AreForKinds new_rows
 
 -- THE CALLS
 

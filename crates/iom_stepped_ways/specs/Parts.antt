@@ -28,24 +28,26 @@ part_along table left = record { table = table; steps_to = λ page. map step_at 
 abbrev pub part_from_root : InBoth → Part
 part_from_root w = record { table = w.second; steps_to = λ page. steps_along (second_widths w.levels') page }
 
--- What remains of a walk for an access of this kind, in a memory of so many frames, is one of these parts. In both stages those of the second count: the one in hand, and
--- as long as the guest's tables may name any page, all that begin at the second stage's root.
-pub data IsWalkOf (frames : ℕ) (kind : AccessKind) (rest : Rest) (parts : List Part) : Type 0 where
+-- What remains of a walk for an access of this kind, in a memory of so many frames, is one of these parts, and a load from one of these frames. In both stages
+-- the parts are those of the second: the one in hand, and as long as the guest's tables may name any page, all that begin at the second stage's root. The
+-- entries are the frames of a guest's tables from which it loads next: the second stage has led it there already.
+pub data IsWalkOf (frames : ℕ) (kind : AccessKind) (rest : Rest) (parts : List Part) (entries : List ℕ) : Type 0 where
   -- in a table of a first stage alone
-  InFirstStage : (table : ℕ) (left : List ℕ) → rest ≡ first_rest frames kind table left → parts ≡ part_along table left ∷ [] → IsWalkOf frames kind rest parts
+  InFirstStage : (table : ℕ) (left : List ℕ) → rest ≡ first_rest frames kind table left → parts ≡ part_along table left ∷ [] → entries ≡ []
+      → IsWalkOf frames kind rest parts entries
   -- in one of a second alone
-  InSecondStage : (address table : ℕ) (left : List ℕ) → rest ≡ second_rest frames kind address table left → parts ≡ part_along table left ∷ []
-      → IsWalkOf frames kind rest parts
+  InSecondStage : (address table : ℕ) (left : List ℕ) → rest ≡ second_rest frames kind address table left → parts ≡ part_along table left ∷ [] → entries ≡ []
+      → IsWalkOf frames kind rest parts entries
   -- in a table of the second stage, on the way to the entry at an index of a guest's table
   ToGuestEntry : (w : InBoth) (loaded : List ℕ) (guest i : ℕ) (below : List ℕ) (table : ℕ) (left : List ℕ) → w.kind ≡ kind
       → rest ≡ lead_rest w.frames Read w.kind (λ frame rights level. guest_load w loaded guest i below (λ next. guest_down w (loaded ++ frame ∷ []) next below) frame)
       (unread w guest i) table left
-      → parts ≡ part_along table left ∷ part_from_root w ∷ [] → IsWalkOf frames kind rest parts
-  -- at that entry, which lies in this frame
+      → parts ≡ part_along table left ∷ part_from_root w ∷ [] → entries ≡ [] → IsWalkOf frames kind rest parts entries
+  -- at that entry, which lies in this frame: it loads from there
   InGuestTable : (w : InBoth) (loaded : List ℕ) (guest i : ℕ) (below : List ℕ) (frame : ℕ) → w.kind ≡ kind
       → rest ≡ guest_load w loaded guest i below (λ next. guest_down w (loaded ++ frame ∷ []) next below) frame
-      → parts ≡ part_from_root w ∷ [] → IsWalkOf frames kind rest parts
+      → parts ≡ part_from_root w ∷ [] → entries ≡ frame ∷ [] → IsWalkOf frames kind rest parts entries
   -- in a table of the second stage, on the way to the page that the guest's tables gave
   ToGuestPage : (w : InBoth) (loaded : List ℕ) (page : ℕ) (given : Rights) (level table : ℕ) (left : List ℕ) → w.kind ≡ kind
       → rest ≡ lead_rest w.frames w.kind w.kind (reached w loaded given level) (unreached w page) table left
-      → parts ≡ part_along table left ∷ [] → IsWalkOf frames kind rest parts
+      → parts ≡ part_along table left ∷ [] → entries ≡ [] → IsWalkOf frames kind rest parts entries

@@ -2,6 +2,7 @@
 use Rattle.std.specs.Prelude.{◌≡◌, ℕ, ◌/◌, ◌==◌, Bool, List, [], ◌∷◌, ◌++◌, map, length, Contains, Option, None, Some, ⊤, if◌then◌else◌}
 use Rattle.iom_base.specs.Sizes.{page_size}
 use Rattle.iom_base.specs.declared.access.AccessKind.{AccessKind}
+use Rattle.iom_base.specs.declared.access.AccessKind.TheVariants.{Read}
 use Rattle.iom_board.specs.BoardParts.{BoardParts}
 use Rattle.iom_stepped_requests.specs.Serving.{Remaining, Serves, Locates, Translates}
 use Rattle.iom_stepped_requests.specs.Standing.{still_serving}
@@ -26,7 +27,8 @@ use Rattle.iom_hardware_ways.specs.Formats.{indices_from}
 use Rattle.iom_hardware_ways.specs.Scenes.{scene_of}
 use Rattle.iom_stepped_ways.specs.Parts.{Part, part_along, part_from_root, IsWalkOf}
 
--- what is added to a scene: walks of tables, walks of the directory, and accesses of each device that have their answer, and are let through at a load to come
+-- what is added to a scene: walks of tables, walks of the directory, and accesses of each device that are let through at a load to come: those that have their
+-- answer, and the load of a guest's entry
 pub record Added : Type 0 where
   pub partial_walks : List PartialWalk
   pub directory_walks : List DirectoryWalk
@@ -75,8 +77,9 @@ HasAdded frames added own (Locates request anew rest) =
     (request ≡ own) × ((id : ℕ) × (level : ℕ) × (page : ℕ) × (rest ≡ directory_walk level page id)
     × Contains added.directory_walks (walk_in_page request.device id level page))
 HasAdded frames added own (Translates request context translated rest) =
-    (request ≡ own) × ((parts : List Part) × IsWalkOf frames request.asked.kind rest parts
-    × ((part : Part) → Contains parts part → Contains added.partial_walks (walk_of_part request.device (address_space translated) part)))
+    (request ≡ own) × ((list : List Part) × (entries : List ℕ) × IsWalkOf frames request.asked.kind rest list entries
+    × ((part : Part) → Contains list part → Contains added.partial_walks (walk_of_part request.device (address_space translated) part))
+    × ((frame : ℕ) → Contains entries frame → Contains (added.let_through request.device) (access_on frame Read)))
 
 -- A SCENE COVERS hardware beside which these requests are under way: it is that of the board, with all that may come of each of them
 pub record Covers (trusted : ℕ → Bool) (parts : BoardParts) (rows : List WalkRow) (scene : HardwareScene) : Type 0 where
@@ -96,6 +99,14 @@ parts_of (ToGuestEntry both entry place) =
 parts_of (InGuestTable both entry frame) = part_from_root (in_both 0 both) ∷ []
 parts_of (ToGuestPage both page place) = part_along place.table.number (indices_of place (guest_address page.number both.asked.address)) ∷ []
 
+-- the frames of a guest's tables from which it loads next
+abbrev pub entries_of : TableWalk → List ℕ
+entries_of (InFirstStage asked place) = []
+entries_of (InSecondStage asked place) = []
+entries_of (ToGuestEntry both entry place) = []
+entries_of (InGuestTable both entry frame) = frame ∷ []
+entries_of (ToGuestPage both page place) = []
+
 -- an access of the device is let through
 abbrev pub with_one : ℕ → PendingAccess → Added
 with_one owner access = record { partial_walks = []; directory_walks = []; let_through = λ device. if owner == device then access ∷ [] else [] }
@@ -109,8 +120,11 @@ added_by_answer request (Faults fault) = nothing_added
 abbrev pub added_by_walk : RequestWalk → Added
 added_by_walk (InDirectory request anew walk) =
     record { partial_walks = []; directory_walks = walk_in_page request.device walk.id walk.level walk.page.number ∷ []; let_through = λ device. [] }
-added_by_walk (InTables request context translated walk) =
-    record { partial_walks = map (walk_of_part request.device (address_space translated)) (parts_of walk); directory_walks = []; let_through = λ device. [] }
+added_by_walk (InTables request context translated walk) = record {
+  partial_walks = map (walk_of_part request.device (address_space translated)) (parts_of walk);
+  directory_walks = [];
+  let_through = λ device. if request.device == device then map (λ frame. access_on frame Read) (entries_of walk) else [];
+}
 
 abbrev pub added_by : Request → Serving → Added
 added_by request (GoesOn walk) = added_by_walk walk

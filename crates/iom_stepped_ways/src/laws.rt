@@ -1,16 +1,17 @@
 //! What is proved of hardware whose walks make one load an event.
-ghost use Rattle.iom_stepped_ways.specs.Laws.{CoveredAreForKinds, KindsStay, ScenesCover, ScenesOutliveSoftware, SteppedAccessesHadWays, SteppedCallsAddNoWay, SteppedCallsAreTransitions, SteppedCallsKeepSize, SteppedFreeStaysFree, SteppedGoodClaimsHold, SteppedQuietStaysQuiet, WholeScenesCover};
+ghost use Rattle.iom_stepped_ways.specs.Laws.{CoveredAreForKinds, KindsOutliveSoftware, KindsStay, ScenesCover, ScenesOutliveSoftware, SteppedAccessesHadWays, SteppedCallsAddNoWay, SteppedCallsAreTransitions, SteppedCallsKeepSize, SteppedFreeStaysFree, SteppedGoodClaimsHold, SteppedQuietStaysQuiet, WholeScenesCover};
 
 /// The scene of hardware and of what is under way beside it has all that may come of each request, where each walk is for the
 /// kind of access that its request asks for, as it stays whatever is called; where nothing is under way, that of the hardware
-/// alone has. And whatever software changes, what was added to a scene for the walks that are under way is still all that may
-/// come of them.
+/// alone has. And whatever software changes, and whatever of what is under way it gives up, what was added to a scene for the
+/// walks that are under way is still all that may come of those that are left, and each is still for its kind of access.
 pub fn scene_law()
     ensures stepped { ScenesCover }
     ensures whole { WholeScenesCover }
     ensures software { ScenesOutliveSoftware }
     ensures covered { CoveredAreForKinds }
     ensures kinds { KindsStay }
+    ensures software_kinds { KindsOutliveSoftware }
 {}
 
 /// Each call of hardware, and each load of a walk that is under way, is a list of the transitions of which the facts on

@@ -13,4 +13,4 @@ mod tables;
 
 pub use frame_row::FrameRow;
 pub use reach::Reach;
-pub use tables::survey;
+pub use tables::{span, survey};

@@ -65,12 +65,12 @@ impl Reach {
     }
 
     /// The frame can be reached by an access of this kind.
-    pub fn insert_for(&mut self, frame: u32, kind: AccessKind)
+    pub fn insert_for(&mut self, frame: u64, kind: AccessKind)
         ensures { AddsReach self.old self.new (λ own f. (f ≡ frame) × (own ≡ kind)) }
     {
         match kind {
-            AccessKind::Read => self.readable.insert(u64::from(frame)),
-            AccessKind::Write => self.writable.insert(u64::from(frame)),
+            AccessKind::Read => self.readable.insert(frame),
+            AccessKind::Write => self.writable.insert(frame),
         }
     }
 

@@ -16,7 +16,7 @@ use iom_stage_walk::{Entry, entry_at};
 const MEMORY_WORDS: usize = 64;
 
 /// How many pages a leaf spans, with so many levels below it.
-fn span(below: u32) -> u64
+pub fn span(below: u32) -> u64
     requires { below ≤ 3 }
     ensures value { result ≡ span below }
     ensures positive { 0 < result }

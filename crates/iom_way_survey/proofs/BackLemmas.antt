@@ -33,14 +33,32 @@ use Rattle.iom_registers.specs.declared.directory.DirectoryMode.{DirectoryMode}
 use Rattle.iom_registers.specs.declared.directory.DirectoryMode.TheVariants as mode
 use Rattle.iom_registers.specs.Queues.{directory_root}
 use Rattle.iom_hardware_ways.specs.Formats.{steps_in, stages_in, context_of}
-use Rattle.iom_hardware_ways.specs.Scenes.{directory_by, ats_kind, cached_space, mapping_of, mapping_from, kept_entry, kept_entries, said_on, message_of, flight_of, flights_in, scene_of}
+use Rattle.iom_hardware_ways.specs.Scenes.{directory_by, ats_kind, cached_space, mapping_of, mapping_from, kept_entry, kept_entries, said_on, message_of, flight_of, flights_in}
 use Rattle.iom_hardware_ways.proofs.FormatLemmas.{located_in}
 use Rattle.iom_hardware_ways.proofs.ListLemmas.{contains_map, get_contains}
 use Rattle.iom_hardware_ways.proofs.PageIndices.{sizes_have_indices}
 use Rattle.iom_tlb.specs.declared.space.Space.{Space}
 use Rattle.iom_tlb.specs.declared.space.Space.TheVariants as space
-use Rattle.iom_way_survey.specs.Found.{has_directory, mode_in, found_of, cached_found, stored_found, Finds, space_of_context, HaveTable, HaveLeaf, FoundTable, SpaceTable, TablesThrough, TablesFound, SomeTable, FoundLeaf, IsCachedIn, InSpace, AnswersSo, IsAnsweredAmong, IsInCache, LetsKind, ThroughSpace, ThroughFound, IsThatAccess, WayOf}
+use Rattle.iom_way_survey.specs.Found.{has_directory, mode_in, cached_found, stored_found, sought_found, Finds, space_of_context, HaveTable, HaveLeaf, FoundTable, SpaceTable, TablesThrough, TablesFound, SomeTable, FoundLeaf, IsCachedIn, InSpace, AnswersSo, IsAnsweredAmong, IsInCache, LetsKind, ThroughSpace, ThroughFound, IsThatAccess, LookedUpWay, RequestWay, WayOf}
+use Rattle.std.proofs.lemmas.List.Elements.{Contains-append_left, Contains-append_right}
+use Rattle.iom_hardware_ways.specs.Formats.{indices_from}
+use Rattle.iom_reach.specs.Ways.{WalkBegins, PartWay, OnTheWalk}
+use Rattle.iom_stepped_requests.specs.declared.request.Request.{Request}
+use Rattle.iom_stepped_requests.specs.declared.walk.RequestWalk.TheVariants.{InDirectory, InTables}
+use Rattle.iom_stepped_requests.specs.declared.walk.Serving.{Serving}
+use Rattle.iom_stepped_requests.specs.declared.walk.Serving.TheVariants.{GoesOn, Served}
+use Rattle.iom_stepped_walk.specs.Directories.{directory_rest}
+use Rattle.iom_stepped_walk.specs.declared.directory.DirectoryWalk.{DirectoryWalk}
+use Rattle.iom_stepped_walk.specs.declared.tables.TableWalk.{TableWalk}
+use Rattle.iom_stepped_ways.specs.Scenes.{access_on, added_of, address_space, stepped_scene}
+use Rattle.iom_walk_loads.specs.Directory.{directory_walk}
+use Rattle.iom_walk_loads.specs.Loads.{made_from}
+use Rattle.iom_walks.specs.Invariant.{AreWalks}
+use Rattle.iom_walks.specs.Walks.{WalkRow}
+use Rattle.iom_way_survey.proofs.SoughtLemmas.{made_ends}
 use Rattle.iom_way_survey.proofs.TreeLemmas.{levels_are_walks}
+use Rattle.iom_way_survey.proofs.UnderWayLemmas.{access_added, leads_part, locating_added, part_added, reads_part, space_named_back}
+use Rattle.iom_way_survey.specs.Walking.{found_of, serving_of, sought_by, WalkLeads, WalkReads, WalksSo}
 use Rattle.iom_way_survey.proofs.WayLemmas.{StagesLead, StagesRead, spaces_by, none_is_some}
 
 -- A CONTEXT'S TABLES
@@ -134,9 +152,18 @@ both_true true true cached own is = (refl, (refl, is))
 both_true true false cached own is = absurd (none_is_some own is)
 both_true false b cached own is = absurd (none_is_some own is)
 
-module _ (trusted : ℕ → Bool) (parts : BoardParts) where
+-- a context is sought by a request that is on its way through the directory
+on_its_way : (memory : List (List ℕ)) (serving : Option Serving) (own : DeviceContext) → sought_by memory serving ≡ Some own
+    → (request : Request) × (anew : Bool) × (stands : DirectoryWalk) × ((serving ≡ Some (GoesOn (InDirectory request anew stands)))
+    × (made_from memory (directory_walk stands.level stands.page.number stands.id) ≡ Ok own))
+on_its_way memory None own is = absurd (none_is_some own is)
+on_its_way memory (Some (GoesOn (InDirectory request anew stands))) own is = (request, anew, stands, (refl, ok_of (made_from memory (directory_rest stands)) own is))
+on_its_way memory (Some (GoesOn (InTables request context kept_in walk))) own is = absurd (none_is_some own is)
+on_its_way memory (Some (Served answer)) own is = absurd (none_is_some own is)
+
+module _ (trusted : ℕ → Bool) (parts : BoardParts) (rows : List WalkRow) (walks : AreWalks rows) where
   abbrev S : HardwareScene
-  S = scene_of trusted parts
+  S = stepped_scene trusted parts rows
 
   pub has : (id : ℕ) (device : Device) → device_with parts.devices id ≡ Some device → HasDevice S id
   has id device at = (ats_kind device.kind, ap (λ (found : Option Device). option_map ats_kind (option_map (λ (d : Device). d.kind) found)) at)
@@ -144,8 +171,8 @@ module _ (trusted : ℕ → Bool) (parts : BoardParts) where
   kind_is : (id : ℕ) (device : Device) (own : DeviceKind) → device_with parts.devices id ≡ Some device → device.kind ≡ own → S.kind_of id ≡ Some (ats_kind own)
   kind_is id device own at is = ap (λ (found : Option Device). option_map ats_kind (option_map (λ (d : Device). d.kind) found)) at ∙ ap (λ k. Some (ats_kind k)) is
 
-  may_find : (id : ℕ) (own : DeviceContext) → HasDevice S id → Finds parts id own → MayFind S id (context_of own)
-  may_find id own device (inl is) =
+  may_find : (id : ℕ) (own : DeviceContext) → HasDevice S id → Finds parts rows id own → MayFind S id (context_of own)
+  may_find id own device (inl (inl is)) =
       let (some, (fits, cached)) = both_true (has_directory (mode_in parts)) (fits_directory (mode_in parts) id) (contexts_of parts.iommu id) own is in (
         device,
         inl (
@@ -153,15 +180,25 @@ module _ (trusted : ℕ → Bool) (parts : BoardParts) where
           inl (ap (λ (b : Bool). if b then option_map context_of (contexts_of parts.iommu id) else None) fits ∙ ap (option_map context_of) cached),
         ),
       )
-  may_find id own device (inr is) =
+  may_find id own device (inl (inr is)) =
       let (tables, at, ends) = located_in (mode_in parts) parts.memory (directory_root (registers_of parts.iommu)) id own
       (ok_of (located_by_mode (mode_in parts) parts.memory (directory_root (registers_of parts.iommu)) id) own is) in
       (device, inl ((tables, at), inr (tables, at, ends)))
+  may_find id own device (inr is) =
+      let (request, anew, stands, (serves, made)) = on_its_way parts.memory (serving_of rows id) own is in (
+        device,
+        inr (
+          stands.page.number,
+          indices_from stands.level stands.id,
+          locating_added rows walks id request anew stands serves,
+          made_ends parts.memory stands.level stands.page.number stands.id own made,
+        ),
+      )
 
   -- ADDRESS SPACES
 
   leaf_found : (s : AddressSpace) (own : Space) (id : ℕ) (found : Option DeviceContext) (kind : AccessKind) (frame : ℕ) → cached_space s ≡ own → HasDevice S id
-      → ((context : DeviceContext) → found ≡ Some context → Finds parts id context) → FoundLeaf parts.memory own found kind frame → IsInSpace S s frame kind
+      → ((context : DeviceContext) → found ≡ Some context → Finds parts rows id context) → FoundLeaf parts.memory own found kind frame → IsInSpace S s frame kind
   leaf_found s own id None kind frame named device finds never = absurd never
   leaf_found s own id (Some context) kind frame named device finds (is, leaf) =
       let (tables, mapping, decide, (leads, serves)) = leaf_leads parts.memory context.first_stage context.second_stage context.gscid context.pscid.number kind frame leaf in
@@ -186,14 +223,29 @@ module _ (trusted : ℕ → Bool) (parts : BoardParts) where
         serves,
       )
 
-  space_way : (s : AddressSpace) (own : Space) (kind : AccessKind) (frame : ℕ) → cached_space s ≡ own → InSpace parts own kind frame → IsInSpace S s frame kind
+  space_way : (s : AddressSpace) (own : Space) (kind : AccessKind) (frame : ℕ) → cached_space s ≡ own → InSpace parts rows own kind frame → IsInSpace S s frame kind
   space_way s own kind frame named (inl cached) = cached_back s own kind frame named cached
-  space_way s own kind frame named (inr (k, low, (device, at, inl leaf))) =
+  space_way s own kind frame named (inr (k, low, (device, at, inl (inl leaf)))) =
       let (first, found) = found_with parts.devices k device at in
-      leaf_found s own device.id (cached_found parts device.id) kind frame named (has device.id first found) (λ context is. inl is) leaf
-  space_way s own kind frame named (inr (k, low, (device, at, inr leaf))) =
+      leaf_found s own device.id (cached_found parts device.id) kind frame named (has device.id first found) (λ context is. inl (inl is)) leaf
+  space_way s own kind frame named (inr (k, low, (device, at, inl (inr leaf)))) =
       let (first, found) = found_with parts.devices k device at in
-      leaf_found s own device.id (stored_found parts device.id) kind frame named (has device.id first found) (λ context is. inr is) leaf
+      leaf_found s own device.id (stored_found parts device.id) kind frame named (has device.id first found) (λ context is. inl (inr is)) leaf
+  space_way s own kind frame named (inr (k, low, (device, at, inr (inl leaf)))) =
+      let (first, found) = found_with parts.devices k device at in
+      leaf_found s own device.id (sought_found parts rows device.id) kind frame named (has device.id first found) (λ context is. inr is) leaf
+  space_way s own kind frame named (inr (k, low, (device, at, inr (inr leads)))) =
+      let (kept_in, stands, (is, led), all) = part_added rows walks device.id (λ kept walk. (kept ≡ own) × WalkLeads parts.memory walk kind frame) leads in
+      let (part, among, (mapping, leads', serves)) = leads_part parts.memory stands kind frame led in
+      let same : address_space kept_in ≡ s = sym (name_back (address_space kept_in)) ∙ ap name_of (space_named_back kept_in ∙ is ∙ sym named) ∙ name_back s in
+      inr (
+        part.table,
+        part.steps_to,
+        mapping,
+        subst (λ (x : AddressSpace). WalkBegins S x part.table part.steps_to) same (PartWay (Some device.id) (all part among)),
+        leads',
+        serves,
+      )
 
   -- EN_ATS
 
@@ -244,14 +296,14 @@ module _ (trusted : ℕ → Bool) (parts : BoardParts) where
   -- CONTEXTS
 
   through_way : (device : Device) (own : DeviceContext) (kind : AccessKind) (frame : ℕ) → device_with parts.devices device.id ≡ Some device → (found : Option Space) → space_of_context own ≡ found
-      → ThroughSpace parts found kind frame → Through S device.id (context_of own) frame kind
+      → ThroughSpace parts rows found kind frame → Through S device.id (context_of own) frame kind
   through_way device own kind frame at None is so = Untranslated (none_back own.first_stage own.second_stage own is)
   through_way device own kind frame at (Some s) is reached =
       let (known, of, same) = space_back own.first_stage own.second_stage own s is in
       Translated known of (space_way known s kind frame same reached)
 
   found_way : (device : Device) (found : Option DeviceContext) (kind : AccessKind) (frame : ℕ) → device_with parts.devices device.id ≡ Some device
-      → ((context : DeviceContext) → found ≡ Some context → Finds parts device.id context) → ThroughFound parts device found kind frame → Way S device.id frame kind
+      → ((context : DeviceContext) → found ≡ Some context → Finds parts rows device.id context) → ThroughFound parts rows device found kind frame → Way S device.id frame kind
   found_way device None kind frame at finds never = absurd never
   found_way device (Some own) kind frame at finds (inl (through, let_ats)) =
       ByContext (context_of own) (may_find device.id own (has device.id device at) (finds own refl)) (ThroughAts let_ats (lets_way device.kind device kind frame refl at through))
@@ -276,15 +328,32 @@ module _ (trusted : ℕ → Bool) (parts : BoardParts) where
   flight_back (Some row) k kind frame made = made_back row.device row.waiting k (slice_get row.waiting k) kind frame refl made
 
   -- NO WAY IS INVENTED
-  pub way_back : (device : Device) (frame : ℕ) (kind : AccessKind) → device_with parts.devices device.id ≡ Some device → WayOf parts device kind frame → Way S device.id frame kind
-  way_back device frame kind at (inl (inl (inl (k, low, made)))) = Accepted (flight_back (row_of (flights_of parts.iommu).rows device.id) k kind frame made)
-  way_back device frame kind at (inl (inl (inr bare))) = AnyFrame (has device.id device at) (ap (λ (m : DirectoryMode). directory_by m (directory_root (registers_of parts.iommu))) bare)
-  way_back device frame kind at (inl (inr cached)) = found_way device (cached_found parts device.id) kind frame at (λ context is. inl is) cached
-  way_back device frame kind at (inr stored) = found_way device (stored_found parts device.id) kind frame at (λ context is. inr is) stored
+
+  looked_up_way : (device : Device) (frame : ℕ) (kind : AccessKind) → device_with parts.devices device.id ≡ Some device → LookedUpWay parts rows device kind frame → Way S device.id frame kind
+  looked_up_way device frame kind at (inl (inl (inl (inl (k, low, made))))) =
+      Accepted (Contains-append_left (flights_in (row_of (flights_of parts.iommu).rows device.id)) ((added_of rows).let_through device.id) (access_on frame kind)
+      (flight_back (row_of (flights_of parts.iommu).rows device.id) k kind frame made))
+  looked_up_way device frame kind at (inl (inl (inl (inr lets)))) =
+      Accepted (Contains-append_right (flights_in (row_of (flights_of parts.iommu).rows device.id)) ((added_of rows).let_through device.id) (access_on frame kind)
+      (access_added rows walks device.id frame kind lets))
+  looked_up_way device frame kind at (inl (inl (inr bare))) = AnyFrame (has device.id device at) (ap (λ (m : DirectoryMode). directory_by m (directory_root (registers_of parts.iommu))) bare)
+  looked_up_way device frame kind at (inl (inr cached)) = found_way device (cached_found parts device.id) kind frame at (λ context is. inl (inl is)) cached
+  looked_up_way device frame kind at (inr stored) = found_way device (stored_found parts device.id) kind frame at (λ context is. inl (inr is)) stored
+
+  request_way : (device : Device) (frame : ℕ) (kind : AccessKind) → device_with parts.devices device.id ≡ Some device → RequestWay parts rows device kind frame → Way S device.id frame kind
+  request_way device frame kind at (inl sought) = found_way device (sought_found parts rows device.id) kind frame at (λ context is. inr is) sought
+  request_way device frame kind at (inr leads) =
+      let (kept_in, stands, led, all) = part_added rows walks device.id (λ kept walk. WalkLeads parts.memory walk kind frame) leads in
+      let (part, among, (mapping, leads', serves)) = leads_part parts.memory stands kind frame led in
+      OnTheWalk (address_space kept_in) part.table part.steps_to mapping (all part among) leads' serves
+
+  pub way_back : (device : Device) (frame : ℕ) (kind : AccessKind) → device_with parts.devices device.id ≡ Some device → WayOf parts rows device kind frame → Way S device.id frame kind
+  way_back device frame kind at (inl way) = looked_up_way device frame kind at way
+  way_back device frame kind at (inr way) = request_way device frame kind at way
 
   -- TABLES
 
-  table_found : (s : Space) (id : ℕ) (found : Option DeviceContext) (frame : ℕ) → HasDevice S id → ((context : DeviceContext) → found ≡ Some context → Finds parts id context)
+  table_found : (s : Space) (id : ℕ) (found : Option DeviceContext) (frame : ℕ) → HasDevice S id → ((context : DeviceContext) → found ≡ Some context → Finds parts rows id context)
       → FoundTable parts.memory s found frame → IsOfTables S frame
   table_found s id None frame device finds never = absurd never
   table_found s id (Some context) frame device finds (is, table) =
@@ -292,22 +361,36 @@ module _ (trusted : ℕ → Bool) (parts : BoardParts) where
       let (known, of, same) = space_back context.first_stage context.second_stage context s is in
       (known, tables.root, steps_in (context_of context).stages, page, AtRoot id (context_of context) tables (may_find id context device (finds context refl)) of decide refl refl, reads)
 
-  space_table : (s : Space) (frame : ℕ) → SpaceTable parts s frame → IsOfTables S frame
-  space_table s frame (k, low, (device, at, inl table)) =
-      let (own, found) = found_with parts.devices k device at in
-      table_found s device.id (cached_found parts device.id) frame (has device.id own found) (λ context is. inl is) table
-  space_table s frame (k, low, (device, at, inr table)) =
-      let (own, found) = found_with parts.devices k device at in
-      table_found s device.id (stored_found parts device.id) frame (has device.id own found) (λ context is. inr is) table
+  -- those that a request walks
+  walk_table : (id frame : ℕ) (Is : Space → TableWalk → Type 0) → ((kept : Space) (walk : TableWalk) → Is kept walk → WalkReads parts.memory walk frame) → WalksSo (serving_of rows id) Is → IsOfTables S frame
+  walk_table id frame Is reads so =
+      let (kept_in, stands, is, all) = part_added rows walks id Is so in
+      let (part, among, (page, read)) = reads_part parts.memory stands frame (reads kept_in stands is) in
+      (address_space kept_in, part.table, part.steps_to, page, PartWay (Some id) (all part among), read)
 
-  through_table : (found : Option Space) (frame : ℕ) → TablesThrough parts found frame → IsOfTables S frame
+  space_table : (s : Space) (frame : ℕ) → SpaceTable parts rows s frame → IsOfTables S frame
+  space_table s frame (k, low, (device, at, inl (inl table))) =
+      let (own, found) = found_with parts.devices k device at in
+      table_found s device.id (cached_found parts device.id) frame (has device.id own found) (λ context is. inl (inl is)) table
+  space_table s frame (k, low, (device, at, inl (inr table))) =
+      let (own, found) = found_with parts.devices k device at in
+      table_found s device.id (stored_found parts device.id) frame (has device.id own found) (λ context is. inl (inr is)) table
+  space_table s frame (k, low, (device, at, inr (inl table))) =
+      let (own, found) = found_with parts.devices k device at in
+      table_found s device.id (sought_found parts rows device.id) frame (has device.id own found) (λ context is. inr is) table
+  space_table s frame (k, low, (device, at, inr (inr reads))) =
+      walk_table device.id frame (λ kept walk. (kept ≡ s) × WalkReads parts.memory walk frame) (λ kept walk (is, read). read) reads
+
+  through_table : (found : Option Space) (frame : ℕ) → TablesThrough parts rows found frame → IsOfTables S frame
   through_table None frame never = absurd never
   through_table (Some s) frame table = space_table s frame table
 
-  tables_of_found : (found : Option DeviceContext) (frame : ℕ) → TablesFound parts found frame → IsOfTables S frame
+  tables_of_found : (found : Option DeviceContext) (frame : ℕ) → TablesFound parts rows found frame → IsOfTables S frame
   tables_of_found None frame never = absurd never
   tables_of_found (Some context) frame table = through_table (space_of_context context) frame table
 
-  pub tables_back : (frame : ℕ) → SomeTable parts frame → IsOfTables S frame
-  tables_back frame (k, low, (device, at, inl cached)) = tables_of_found (cached_found parts device.id) frame cached
-  tables_back frame (k, low, (device, at, inr stored)) = tables_of_found (stored_found parts device.id) frame stored
+  pub tables_back : (frame : ℕ) → SomeTable parts rows frame → IsOfTables S frame
+  tables_back frame (k, low, (device, at, inl (inl cached))) = tables_of_found (cached_found parts device.id) frame cached
+  tables_back frame (k, low, (device, at, inl (inr stored))) = tables_of_found (stored_found parts device.id) frame stored
+  tables_back frame (k, low, (device, at, inr (inl sought))) = tables_of_found (sought_found parts rows device.id) frame sought
+  tables_back frame (k, low, (device, at, inr (inr reads))) = walk_table device.id frame (λ kept walk. WalkReads parts.memory walk frame) (λ kept walk read. read) reads

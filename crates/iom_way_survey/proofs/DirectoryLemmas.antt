@@ -11,17 +11,23 @@ use Rattle.iom_iommu.specs.Parts.{registers_of}
 use Rattle.iom_reach.specs.Memory.{Tables, WalkStep, Goes, ReadsFrame}
 use Rattle.iom_reach.specs.Safe.{IsOfTables, IsOfDirectory}
 use Rattle.iom_reach.specs.Scene.{Directory, Off, Bare, At, DirectoryWalk}
-use Rattle.iom_hardware_ways.proofs.ListLemmas.{in_none}
 use Rattle.iom_registers.specs.declared.directory.DirectoryMode.{DirectoryMode}
 use Rattle.iom_registers.specs.declared.directory.DirectoryMode.TheVariants as mode
 use Rattle.iom_registers.specs.Queues.{directory_mode, directory_root}
 use Rattle.iom_hardware_ways.specs.Formats.{word_in, context_found, found_non_leaf, stored_context, context_format, indices_from, steps_of}
-use Rattle.iom_hardware_ways.specs.Scenes.{directory_by, scene_of}
+use Rattle.iom_hardware_ways.specs.Scenes.{directory_by}
 use Rattle.iom_hardware_ways.proofs.FormatLemmas.{non_leaf_there, ddi_low, some_indices}
 use Rattle.iom_tlb.specs.declared.space.Space.{Space}
-use Rattle.iom_way_survey.specs.Directories.{next_page_of, IsOnWay, IsOnPath, PathReads, DirectoryReads}
-use Rattle.iom_way_survey.specs.Found.{cached_found, stored_found, FoundTable, SpaceTable, TablesThrough, TablesFound, TablesOfDevice, SomeTable}
-use Rattle.iom_way_survey.proofs.WayLemmas.{plugged, device_place, table_of}
+use Rattle.iom_way_survey.specs.Laws.{ArePlugged}
+use Rattle.iom_stepped_requests.specs.declared.walk.Serving.{Serving}
+use Rattle.iom_stepped_ways.specs.Scenes.{stepped_scene}
+use Rattle.iom_walks.specs.Invariant.{AreWalks}
+use Rattle.iom_walks.specs.Walks.{WalkRow}
+use Rattle.iom_way_survey.specs.Directories.{next_page_of, IsOnWay, IsOnPath, PathReads, RequestLocates, DirectoryReads}
+use Rattle.iom_way_survey.specs.Found.{cached_found, stored_found, sought_found, FoundTable, DeviceTable, SpaceTable, TablesThrough, TablesFound, TablesOfDevice, SomeTable}
+use Rattle.iom_way_survey.specs.Walking.{serving_of, WalkReads}
+use Rattle.iom_way_survey.proofs.UnderWayLemmas.{locating_under_way}
+use Rattle.iom_way_survey.proofs.WayLemmas.{plugged, device_place, table_of, walks_still}
 
 -- PATHS
 
@@ -84,34 +90,41 @@ path_reads mode.TwoLevels memory root id frame tables is reads =
 path_reads mode.ThreeLevels memory root id frame tables is reads =
     on_levels memory 2 root id frame (subst (λ (t : Tables). ReadsFrame context_format (slice_get memory) t.root (steps_of t.levels id) frame) (sym (ap tree_of is)) reads)
 
-module _ (trusted : ℕ → Bool) (parts : BoardParts) where
-  pub directory_reads : (frame : ℕ) → IsOfDirectory (scene_of trusted parts) frame → DirectoryReads parts frame
-  directory_reads frame (inr (walk, there, reads)) = absurd (in_none {X = DirectoryWalk} walk there)
+module _ (trusted : ℕ → Bool) (parts : BoardParts) (rows : List WalkRow) (walks : AreWalks rows) (plugs : ArePlugged parts rows) where
+  pub directory_reads : (frame : ℕ) → IsOfDirectory (stepped_scene trusted parts rows) frame → DirectoryReads parts rows frame
+  directory_reads frame (inr (walk, there, reads)) =
+      let (id, own, is, (request, anew, stands, (same, serves))) = locating_under_way rows walks walk there in
+      let (plug, found) = plugs id own is in
+      let (k, low, (here, named)) = device_place parts.devices id plug found in
+      let reads' = subst (λ (w : DirectoryWalk). ReadsFrame context_format (slice_get parts.memory) w.table w.steps frame) same reads in
+      let locates = subst (λ (o : Option Serving). RequestLocates parts.memory o frame) (sym serves) (on_path parts.memory stands.level stands.page.number stands.id frame reads') in
+      (k, low, (plug, here, inr (subst (λ i. RequestLocates parts.memory (serving_of rows i) frame) (sym named) locates)))
   directory_reads frame (inl (id, tables, device, at, reads)) =
-      let (plug, found) = plugged trusted parts id device in
+      let (plug, found) = plugged trusted parts rows walks plugs id device in
       let (k, low, (here, same)) = device_place parts.devices id plug found in (
         k,
         low,
         (
           plug,
           here,
-          subst (λ i. PathReads parts.memory (directory_mode (registers_of parts.iommu)) (directory_root (registers_of parts.iommu)) i frame) (sym same)
-              (path_reads (directory_mode (registers_of parts.iommu)) parts.memory (directory_root (registers_of parts.iommu)) id frame tables at reads),
+          inl (subst (λ i. PathReads parts.memory (directory_mode (registers_of parts.iommu)) (directory_root (registers_of parts.iommu)) i frame) (sym same)
+              (path_reads (directory_mode (registers_of parts.iommu)) parts.memory (directory_root (registers_of parts.iommu)) id frame tables at reads)),
         ),
       )
 
   -- TABLES
 
-  found_tables : (s : Space) (found : Option DeviceContext) (frame : ℕ) → FoundTable parts.memory s found frame → SpaceTable parts s frame → TablesFound parts found frame
+  found_tables : (s : Space) (found : Option DeviceContext) (frame : ℕ) → FoundTable parts.memory s found frame → SpaceTable parts rows s frame → TablesFound parts rows found frame
   found_tables s None frame never space = absurd never
-  found_tables s (Some context) frame (is, table) space = subst (λ (o : Option Space). TablesThrough parts o frame) (sym is) space
+  found_tables s (Some context) frame (is, table) space = subst (λ (o : Option Space). TablesThrough parts rows o frame) (sym is) space
 
-  pub tables_read : (frame : ℕ) → IsOfTables (scene_of trusted parts) frame → SomeTable parts frame
+  pub tables_read : (frame : ℕ) → IsOfTables (stepped_scene trusted parts rows) frame → SomeTable parts rows frame
   tables_read frame reads =
-      let (s, (k, low, (device, here, table))) = table_of trusted parts frame reads in
+      let (s, (k, low, (device, here, table))) = table_of trusted parts rows walks plugs frame reads in
       (k, low, (device, here, by s device table (k, low, (device, here, table))))
     where
-      by : (s : Space) (device : Device) → FoundTable parts.memory s (cached_found parts device.id) frame ⊎ FoundTable parts.memory s (stored_found parts device.id) frame → SpaceTable parts s frame
-          → TablesOfDevice parts device.id frame
-      by s device (inl cached) space = inl (found_tables s (cached_found parts device.id) frame cached space)
-      by s device (inr stored) space = inr (found_tables s (stored_found parts device.id) frame stored space)
+      by : (s : Space) (device : Device) → DeviceTable parts rows s device.id frame → SpaceTable parts rows s frame → TablesOfDevice parts rows device.id frame
+      by s device (inl (inl cached)) space = inl (inl (found_tables s (cached_found parts device.id) frame cached space))
+      by s device (inl (inr stored)) space = inl (inr (found_tables s (stored_found parts device.id) frame stored space))
+      by s device (inr (inl sought)) space = inr (inl (found_tables s (sought_found parts rows device.id) frame sought space))
+      by s device (inr (inr reads')) space = inr (inr (walks_still (serving_of rows device.id) (λ kept walk. (kept ≡ s) × WalkReads parts.memory walk frame) (λ kept walk. WalkReads parts.memory walk frame) (λ kept walk (is, read). read) reads'))

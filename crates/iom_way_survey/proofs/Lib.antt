@@ -1,4 +1,8 @@
 pub mod TreeLemmas
+pub mod HandLemmas
+pub mod GuestLemmas
+pub mod UnderWayLemmas
+pub mod SoughtLemmas
 pub mod WayLemmas
 pub mod FoundLemmas
 pub mod BackLemmas
@@ -10,3 +14,4 @@ pub mod SafeLemmas
 pub mod PathLemmas
 pub mod LookLemmas
 pub mod SoleLemmas
+pub mod BesideLemmas

@@ -1,5 +1,5 @@
 -- What is looked for of the directory, the command queue and the fault queue is there: no frame is invented.
-use Rattle.std.proofs.Common.{◌≡◌, ◌⊎◌, ◌∙◌, inl, inr, ℕ, zero, suc, ◌+◌, ◌*◌, ◌/◌, ◌-◌, ◌<◌, ◌≤◌, Bool, true, false, nat_lt, List, [], ◌∷◌, map, slice_get, Contains, Some, Result, Ok, Err, if◌then◌else◌, subst, refl, sym, ap, arith}
+use Rattle.std.proofs.Common.{◌≡◌, ◌⊎◌, ◌∙◌, inl, inr, ℕ, zero, suc, ◌+◌, ◌*◌, ◌/◌, ◌-◌, ◌<◌, ◌≤◌, Bool, true, false, nat_lt, List, [], ◌∷◌, map, slice_get, Contains, Option, None, Some, Result, Ok, Err, if◌then◌else◌, subst, refl, sym, ap, arith}
 use Rattle.std.specs.List.{range_with_len}
 use Rattle.std.proofs.lemmas.Bool.Decides.{eqb_tells, leb_tells}
 use Rattle.std.proofs.lemmas.Nat.{pow_pos}
@@ -26,12 +26,22 @@ use Rattle.iom_registers.specs.declared.directory.DirectoryMode.TheVariants as m
 use Rattle.iom_registers.specs.declared.registers.Registers.{Registers}
 use Rattle.iom_registers.specs.Queues.{directory_mode, directory_root, fault_base, fault_entries}
 use Rattle.iom_hardware_ways.specs.Formats.{word_in, found_non_leaf, context_format, indices_from, steps_of}
-use Rattle.iom_hardware_ways.specs.Scenes.{directory_by, waiting_places, fault_frames_of, scene_of}
+use Rattle.iom_hardware_ways.specs.Scenes.{directory_by, waiting_places, fault_frames_of}
 use Rattle.iom_hardware_ways.proofs.FormatLemmas.{non_leaf_there, ddi_low, some_indices}
 use Rattle.iom_hardware_ways.proofs.ListLemmas.{contains_map}
 use Rattle.iom_table_survey.specs.Reaches.{frames_by}
 use Rattle.iom_table_survey.specs.Rows.{row_has, frame_place, GrowsBy}
-use Rattle.iom_way_survey.specs.Directories.{next_page_of, IsOnWay, IsOnPath, PathReads, DirectoryReads}
+use Rattle.iom_stepped_requests.specs.declared.request.Request.{Request}
+use Rattle.iom_stepped_requests.specs.declared.walk.RequestWalk.TheVariants.{InDirectory, InTables}
+use Rattle.iom_stepped_requests.specs.declared.walk.Serving.{Serving}
+use Rattle.iom_stepped_requests.specs.declared.walk.Serving.TheVariants.{GoesOn, Served}
+use Rattle.iom_stepped_walk.specs.declared.directory.DirectoryWalk.{DirectoryWalk}
+use Rattle.iom_stepped_ways.specs.Scenes.{stepped_scene, walk_in_page}
+use Rattle.iom_walks.specs.Invariant.{AreWalks}
+use Rattle.iom_walks.specs.Walks.{WalkRow}
+use Rattle.iom_way_survey.specs.Walking.{serving_of}
+use Rattle.iom_way_survey.proofs.UnderWayLemmas.{locating_added}
+use Rattle.iom_way_survey.specs.Directories.{next_page_of, IsOnWay, IsOnPath, PathReads, RequestLocates, DirectoryReads}
 use Rattle.iom_way_survey.specs.Queues.{IsFrameAmong, IsWordAmong, IsOfFaults}
 use Rattle.iom_way_survey.specs.Found.{SomeTable}
 use Rattle.iom_way_survey.specs.Surveys.{is_id_among, AreRowsOf}
@@ -108,20 +118,31 @@ fault_back r frame (on, (least, most)) =
     (subst (λ (f : ℕ). Contains (map (λ i. (fault_base r + 32 * i) / 4096) (range_with_len 0 (fault_entries r))) f) is
     (contains_map (λ (i : ℕ). (fault_base r + 32 * i) / 4096) (range_with_len 0 (fault_entries r)) index (range_has (fault_entries r) 0 index (omega arith) (omega (arith, low)))))
 
-module _ (trusted : ℕ → Bool) (parts : BoardParts) where
-  pub directory_back : (frame : ℕ) → DirectoryReads parts frame → IsOfDirectory (scene_of trusted parts) frame
-  directory_back frame (k, low, (device, at, reads)) =
+-- a request on its way reads the pages on its path
+still_locates : (memory : List (List ℕ)) (serving : Option Serving) (frame : ℕ) → RequestLocates memory serving frame
+    → (request : Request) × (anew : Bool) × (stands : DirectoryWalk) × ((serving ≡ Some (GoesOn (InDirectory request anew stands))) × IsOnPath memory stands.level stands.page.number stands.id frame)
+still_locates memory None frame never = absurd never
+still_locates memory (Some (GoesOn (InDirectory request anew stands))) frame is = (request, anew, stands, (refl, is))
+still_locates memory (Some (GoesOn (InTables request context kept_in walk))) frame never = absurd never
+still_locates memory (Some (Served answer)) frame never = absurd never
+
+module _ (trusted : ℕ → Bool) (parts : BoardParts) (rows : List WalkRow) (walks : AreWalks rows) where
+  pub directory_back : (frame : ℕ) → DirectoryReads parts rows frame → IsOfDirectory (stepped_scene trusted parts rows) frame
+  directory_back frame (k, low, (device, at, inr locates)) =
+      let (request, anew, stands, (serves, on)) = still_locates parts.memory (serving_of rows device.id) frame locates in
+      inr (walk_in_page device.id stands.id stands.level stands.page.number, locating_added rows walks device.id request anew stands serves, path_back parts.memory stands.level stands.page.number stands.id frame on)
+  directory_back frame (k, low, (device, at, inl reads)) =
       let (own, found) = found_with parts.devices k device at in
       let (tables, (is, read)) = path_read (directory_mode (registers_of parts.iommu)) parts.memory (directory_root (registers_of parts.iommu)) device.id frame reads in
-      inl (device.id, tables, has trusted parts device.id own found, is, read)
+      inl (device.id, tables, has trusted parts rows walks device.id own found, is, read)
 
-  pub queue_back : (frame : ℕ) → IsFrameAmong (waiting_places (registers_of parts.iommu)) frame → IsOfQueue (scene_of trusted parts) frame
+  pub queue_back : (frame : ℕ) → IsFrameAmong (waiting_places (registers_of parts.iommu)) frame → IsOfQueue (stepped_scene trusted parts rows) frame
   queue_back frame (place, there, is) = (
     place.offset,
     subst (λ (f : ℕ). Contains (waiting_places (registers_of parts.iommu)) (record { frame = f; offset = place.offset })) (sym is) there,
   )
 
-  pub word_back : (frame : ℕ) → IsWordAmong parts.memory (waiting_places (registers_of parts.iommu)) frame → HasWord (scene_of trusted parts) frame
+  pub word_back : (frame : ℕ) → IsWordAmong parts.memory (waiting_places (registers_of parts.iommu)) frame → HasWord (stepped_scene trusted parts rows) frame
   word_back frame word = word
 
 -- ALL THAT IS READ, AND ALL THAT IS STORED
@@ -129,24 +150,24 @@ module _ (trusted : ℕ → Bool) (parts : BoardParts) where
 none_of : (row : List ℕ) (frame : ℕ) → ((f : ℕ) → row_has row f ≡ false) → row_has row frame ≡ true → ⊥
 none_of row frame clear is = false≢true (sym (clear frame) ∙ is)
 
-pub read_back : (trusted : ℕ → Bool) (parts : BoardParts) (none tables directory all : List ℕ) → ((f : ℕ) → row_has none f ≡ false) → GrowsBy none tables (SomeTable parts)
-    → GrowsBy tables directory (DirectoryReads parts) → GrowsBy directory all (IsFrameAmong (waiting_places (registers_of parts.iommu))) → (frame : ℕ) → row_has all frame ≡ true
-    → (other : ℕ) × IsRead (scene_of trusted parts) other × (frame_place other ≡ frame_place frame)
-read_back trusted parts none tables directory all clear one two three frame is = elim (three.sole frame is) [
-  | inr (other, queue, same) ↦ (other, inr (inr (queue_back trusted parts other queue)), same)
+pub read_back : (trusted : ℕ → Bool) (parts : BoardParts) (rows : List WalkRow) → AreWalks rows → (none tables directory all : List ℕ) → ((f : ℕ) → row_has none f ≡ false) → GrowsBy none tables (SomeTable parts rows)
+    → GrowsBy tables directory (DirectoryReads parts rows) → GrowsBy directory all (IsFrameAmong (waiting_places (registers_of parts.iommu))) → (frame : ℕ) → row_has all frame ≡ true
+    → (other : ℕ) × IsRead (stepped_scene trusted parts rows) other × (frame_place other ≡ frame_place frame)
+read_back trusted parts rows walks none tables directory all clear one two three frame is = elim (three.sole frame is) [
+  | inr (other, queue, same) ↦ (other, inr (inr (queue_back trusted parts rows walks other queue)), same)
   | inl before ↦ elim (two.sole frame before) [
-    | inr (other, path, same) ↦ (other, inr (inl (directory_back trusted parts other path)), same)
+    | inr (other, path, same) ↦ (other, inr (inl (directory_back trusted parts rows walks other path)), same)
     | inl first ↦ elim (one.sole frame first) [
-      | inr (other, table, same) ↦ (other, inl (tables_back trusted parts other table), same)
+      | inr (other, table, same) ↦ (other, inl (tables_back trusted parts rows walks other table), same)
       | inl nothing ↦ absurd (none_of none frame clear nothing)
     ]
   ]
 ]
 
-pub stored_back : (trusted : ℕ → Bool) (parts : BoardParts) (none words all : List ℕ) → ((f : ℕ) → row_has none f ≡ false)
+pub stored_back : (trusted : ℕ → Bool) (parts : BoardParts) (rows : List WalkRow) (none words all : List ℕ) → ((f : ℕ) → row_has none f ≡ false)
     → GrowsBy none words (IsWordAmong parts.memory (waiting_places (registers_of parts.iommu))) → GrowsBy words all (IsOfFaults (registers_of parts.iommu)) → (frame : ℕ) → row_has all frame ≡ true
-    → (other : ℕ) × (Contains (scene_of trusted parts).fault_frames other ⊎ HasWord (scene_of trusted parts) other) × (frame_place other ≡ frame_place frame)
-stored_back trusted parts none words all clear one two frame is = elim (two.sole frame is) [
+    → (other : ℕ) × (Contains (stepped_scene trusted parts rows).fault_frames other ⊎ HasWord (stepped_scene trusted parts rows) other) × (frame_place other ≡ frame_place frame)
+stored_back trusted parts rows none words all clear one two frame is = elim (two.sole frame is) [
   | inr (other, fault, same) ↦ (other, inl (fault_back (registers_of parts.iommu) other fault), same)
   | inl before ↦ elim (one.sole frame before) [
     | inr (other, word, same) ↦ (other, inr word, same)
@@ -165,15 +186,15 @@ device_at devices k device single at =
     let both : Some own ≡ Some device = sym here ∙ ap (slice_get devices) place ∙ at in
     found ∙ both
 
-pub rows_back : (parts : BoardParts) (trusted : List ℕ) (rows : List DeviceReach) → AreOfOneId parts.devices → AreRowsOf parts trusted rows
+pub rows_back : (parts : BoardParts) (under_way : List WalkRow) → AreWalks under_way → (trusted : List ℕ) (rows : List DeviceReach) → AreOfOneId parts.devices → AreRowsOf parts under_way trusted rows
     → (k : ℕ) (row : DeviceReach) (frame : ℕ) (kind : AccessKind) → slice_get rows k ≡ Some row → row_has (frames_by row.reach kind) frame ≡ true
-    → (other : ℕ) × Way (scene_of (is_id_among trusted) parts) row.id other kind × (frame_place other ≡ frame_place frame)
-rows_back parts trusted rows single are k row frame kind at is =
+    → (other : ℕ) × Way (stepped_scene (is_id_among trusted) parts under_way) row.id other kind × (frame_place other ≡ frame_place frame)
+rows_back parts under_way walks trusted rows single are k row frame kind at is =
     let (device, here) = same_place rows parts.devices k row are.long at in
     let own = are.each k row device at here in
     let (other, way, place) = (own.reach kind).sole frame is in (
       other,
-      subst (λ (n : ℕ). Way (scene_of (is_id_among trusted) parts) n other kind) (sym own.id)
-          (way_back (is_id_among trusted) parts device other kind (device_at parts.devices k device single here) way),
+      subst (λ (n : ℕ). Way (stepped_scene (is_id_among trusted) parts under_way) n other kind) (sym own.id)
+          (way_back (is_id_among trusted) parts under_way walks device other kind (device_at parts.devices k device single here) way),
       place,
     )

@@ -119,3 +119,22 @@ pub beside_reaches : (P : Option DeviceContext → AccessKind → ℕ → Type 0
     → AddsReach old between Before → AddsReach between new (P beside) → AddsReach old new (λ kind f. Before kind f ⊎ P stored kind f)
 beside_reaches P Before cached stored beside old between new none has_it is first second =
     λ kind. beside_adds (λ o. P o kind) (Before kind) cached stored beside (frames_by old kind) (frames_by between kind) (frames_by new kind) (none kind) (has_it kind) is (first kind) (second kind)
+
+-- and what is looked at after both
+pub adds_third : (old between new : List ℕ) (P Q R : ℕ → Type 0) → GrowsBy old between (λ f. P f ⊎ Q f) → GrowsBy between new R → GrowsBy old new (λ f. P f ⊎ (Q f ⊎ R f))
+adds_third old between new P Q R two third =
+    adds_same old new (λ f. (P f ⊎ Q f) ⊎ R f) (λ f. P f ⊎ (Q f ⊎ R f)) (adds_then old between new (λ f. P f ⊎ Q f) R two third) to from
+  where
+    to : (f : ℕ) → P f ⊎ (Q f ⊎ R f) → (P f ⊎ Q f) ⊎ R f
+    to f (inl p) = inl (inl p)
+    to f (inr (inl q)) = inl (inr q)
+    to f (inr (inr r)) = inr r
+
+    from : (f : ℕ) → (P f ⊎ Q f) ⊎ R f → P f ⊎ (Q f ⊎ R f)
+    from f (inl (inl p)) = inl p
+    from f (inl (inr q)) = inr (inl q)
+    from f (inr r) = inr (inr r)
+
+pub reach_third : (old between new : Reach) (P Q R : AccessKind → ℕ → Type 0) → AddsReach old between (λ kind f. P kind f ⊎ Q kind f) → AddsReach between new R
+    → AddsReach old new (λ kind f. P kind f ⊎ (Q kind f ⊎ R kind f))
+reach_third old between new P Q R two third = λ kind. adds_third (frames_by old kind) (frames_by between kind) (frames_by new kind) (P kind) (Q kind) (R kind) (two kind) (third kind)

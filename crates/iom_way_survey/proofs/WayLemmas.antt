@@ -32,14 +32,30 @@ use Rattle.iom_registers.specs.declared.directory.DirectoryMode.{DirectoryMode}
 use Rattle.iom_registers.specs.declared.directory.DirectoryMode.TheVariants as mode
 use Rattle.iom_registers.specs.Queues.{directory_root}
 use Rattle.iom_hardware_ways.specs.Formats.{formats, entry_format, steps_in, stages_in, context_of}
-use Rattle.iom_hardware_ways.specs.Scenes.{directory_by, ats_kind, cached_space, mapping_of, kept_entry, kept_entries, said_on, message_of, flight_of, flights_in, scene_of}
+use Rattle.iom_hardware_ways.specs.Scenes.{directory_by, ats_kind, cached_space, mapping_of, kept_entry, kept_entries, said_on, message_of, flight_of, flights_in}
 use Rattle.iom_hardware_ways.proofs.DirectoryBack.{directories_are_found}
 use Rattle.iom_hardware_ways.proofs.ListLemmas.{in_none, cons_cases, map_cases}
 use Rattle.iom_hardware_ways.proofs.PageIndices.{sizes_have_indices}
 use Rattle.iom_tlb.specs.declared.space.Space.{Space}
 use Rattle.iom_tlb.specs.declared.trans_cache.Translation.{Translation}
-use Rattle.iom_way_survey.specs.Found.{has_directory, mode_in, found_of, cached_found, stored_found, Finds, space_of_context, HaveTable, HaveLeaf, FoundTable, FoundLeaf, DeviceTable, DeviceLeaf, SpaceTable, SpaceLeaf, IsCachedIn, InSpace, IsKeptAmong, AnswersSo, IsAnsweredAmong, IsInCache, LetsKind, ByAts, ThroughSpace, ThroughFound, IsThatAccess, WayOf}
+use Rattle.iom_way_survey.specs.Found.{has_directory, mode_in, cached_found, stored_found, sought_found, Finds, space_of_context, HaveTable, HaveLeaf, FoundTable, FoundLeaf, DeviceTable, DeviceLeaf, SpaceTable, SpaceLeaf, IsCachedIn, InSpace, IsKeptAmong, AnswersSo, IsAnsweredAmong, IsInCache, LetsKind, ByAts, ThroughSpace, ThroughFound, IsAccepted, IsThatAccess, WayOf}
+use Rattle.std.proofs.lemmas.List.Elements.{Contains-append_cases}
+use Rattle.iom_hardware_ways.specs.Formats.{context_format}
+use Rattle.iom_reach.specs.Memory.{Ends}
+use Rattle.iom_way_survey.specs.Laws.{ArePlugged}
+use Rattle.iom_stepped_requests.specs.declared.request.Request.{Request}
+use Rattle.iom_stepped_requests.specs.declared.walk.RequestWalk.TheVariants.{InDirectory, InTables}
+use Rattle.iom_stepped_requests.specs.declared.walk.Serving.{Serving}
+use Rattle.iom_stepped_requests.specs.declared.walk.Serving.TheVariants.{GoesOn, Served}
+use Rattle.iom_stepped_walk.specs.declared.tables.TableWalk.{TableWalk}
+use Rattle.iom_stepped_ways.specs.Parts.{Part}
+use Rattle.iom_stepped_ways.specs.Scenes.{access_on, added_of, parts_of, stepped_scene}
+use Rattle.iom_walks.specs.Invariant.{AreWalks}
+use Rattle.iom_walks.specs.Walks.{WalkRow}
+use Rattle.iom_way_survey.proofs.SoughtLemmas.{made_found}
 use Rattle.iom_way_survey.proofs.TreeLemmas.{levels_are_walks}
+use Rattle.iom_way_survey.proofs.UnderWayLemmas.{lets_through, locating_under_way, part_leads, part_reads, part_under_way, space_named_back, walking}
+use Rattle.iom_way_survey.specs.Walking.{found_of, serving_of, sought_by, RequestLeads, SpaceLeads, SpaceReads, WalkLeads, WalkReads, WalksSo}
 
 -- LISTS
 
@@ -146,9 +162,16 @@ there : (found : Option Device) (kind : AtsKind) → option_map ats_kind (option
 there None kind is = absurd (none_is_some kind is)
 there (Some device) kind is = (device, refl, (let same : Some (ats_kind device.kind) ≡ Some kind = is in cc))
 
-module _ (trusted : ℕ → Bool) (parts : BoardParts) where
+-- what is so of a walk is weaker
+pub walks_still : (serving : Option Serving) (Is So : Space → TableWalk → Type 0) → ((kept_in : Space) (walk : TableWalk) → Is kept_in walk → So kept_in walk) → WalksSo serving Is → WalksSo serving So
+walks_still None Is So to never = absurd never
+walks_still (Some (GoesOn (InDirectory request anew walk))) Is So to never = absurd never
+walks_still (Some (GoesOn (InTables request context kept_in walk))) Is So to is = to kept_in walk is
+walks_still (Some (Served answer)) Is So to never = absurd never
+
+module _ (trusted : ℕ → Bool) (parts : BoardParts) (rows : List WalkRow) (walks : AreWalks rows) (plugs : ArePlugged parts rows) where
   abbrev S : HardwareScene
-  S = scene_of trusted parts
+  S = stepped_scene trusted parts rows
 
   pub plugged : (id : ℕ) → HasDevice S id → (device : Device) × (device_with parts.devices id ≡ Some device)
   plugged id (kind, is) = let (device, at, same) = there (device_with parts.devices id) kind is in (device, at)
@@ -168,20 +191,24 @@ module _ (trusted : ℕ → Bool) (parts : BoardParts) where
   is_at mode.TwoLevels root tables is = refl
   is_at mode.ThreeLevels root tables is = refl
 
-  pub found_in : (id : ℕ) (context : Context) → MayFind S id context → (own : DeviceContext) × Finds parts id own × (context_of own ≡ context)
+  pub found_in : (id : ℕ) (context : Context) → MayFind S id context → (own : DeviceContext) × Finds parts rows id own × (context_of own ≡ context)
   found_in id context (device, inl ((tables, at), inl cached)) =
       let (own, fits, (here, same)) = shown_from (fits_directory (mode_in parts) id) (contexts_of parts.iommu id) context cached in
       let some = is_at (mode_in parts) (directory_root (registers_of parts.iommu)) tables at in (
         own,
-        inl (ap (λ (b : Bool). if b && fits_directory (mode_in parts) id then contexts_of parts.iommu id else None) some
-            ∙ ap (λ (b : Bool). if true && b then contexts_of parts.iommu id else None) fits ∙ here),
+        inl (inl (ap (λ (b : Bool). if b && fits_directory (mode_in parts) id then contexts_of parts.iommu id else None) some
+            ∙ ap (λ (b : Bool). if true && b then contexts_of parts.iommu id else None) fits ∙ here)),
         same,
       )
   found_in id context (device, inl (at, inr (tables, is, ends))) =
       let (own, finds, same) = directories_are_found parts.memory (registers_of parts.iommu).ddtp id tables context is ends in
-      (own, inr (ap found_of (finds_by (mode_in parts) parts.memory (directory_root (registers_of parts.iommu)) id own finds)), same)
+      (own, inl (inr (ap found_of (finds_by (mode_in parts) parts.memory (directory_root (registers_of parts.iommu)) id own finds))), same)
   found_in id context (device, inr (table, steps, there, ends)) =
-      absurd (in_none {X = DirectoryWalk} (record { device = id; table = table; steps = steps }) there)
+      let (other, under_way, is, (request, anew, stands, (same, serves))) = locating_under_way rows walks (record { device = id; table = table; steps = steps }) there in
+      let ends' = subst (λ (w : DirectoryWalk). Ends context_format (slice_get parts.memory) w.table w.steps context) same ends in
+      let (own, finds, is_it) = made_found parts.memory stands.level stands.page.number stands.id context ends' in
+      let serving = ap (serving_of rows) (ap (λ (w : DirectoryWalk). w.device) same) ∙ serves in
+      (own, inr (ap (sought_by parts.memory) serving ∙ ap found_of finds), is_it)
 
   -- ADDRESS SPACES
 
@@ -193,25 +220,42 @@ module _ (trusted : ℕ → Bool) (parts : BoardParts) where
       → HaveTable parts.memory context.first_stage context.second_stage frame → FoundTable parts.memory own found frame
   table_found own found context frame is has table = subst (λ (o : Option DeviceContext). FoundTable parts.memory own o frame) (sym is) (has, table)
 
-  leaf_of_device : (own : Space) (id : ℕ) (context : DeviceContext) (kind : AccessKind) (frame : ℕ) → Finds parts id context → space_of_context context ≡ Some own
-      → HaveLeaf parts.memory context.first_stage context.second_stage kind frame → DeviceLeaf parts own id kind frame
-  leaf_of_device own id context kind frame (inl is) has leaf = inl (leaf_found own (cached_found parts id) context kind frame is has leaf)
-  leaf_of_device own id context kind frame (inr is) has leaf = inr (leaf_found own (stored_found parts id) context kind frame is has leaf)
+  leaf_of_device : (own : Space) (id : ℕ) (context : DeviceContext) (kind : AccessKind) (frame : ℕ) → Finds parts rows id context → space_of_context context ≡ Some own
+      → HaveLeaf parts.memory context.first_stage context.second_stage kind frame → DeviceLeaf parts rows own id kind frame
+  leaf_of_device own id context kind frame (inl (inl is)) has leaf = inl (inl (leaf_found own (cached_found parts id) context kind frame is has leaf))
+  leaf_of_device own id context kind frame (inl (inr is)) has leaf = inl (inr (leaf_found own (stored_found parts id) context kind frame is has leaf))
+  leaf_of_device own id context kind frame (inr is) has leaf = inr (inl (leaf_found own (sought_found parts rows id) context kind frame is has leaf))
 
-  table_of_device : (own : Space) (id : ℕ) (context : DeviceContext) (frame : ℕ) → Finds parts id context → space_of_context context ≡ Some own
-      → HaveTable parts.memory context.first_stage context.second_stage frame → DeviceTable parts own id frame
-  table_of_device own id context frame (inl is) has table = inl (table_found own (cached_found parts id) context frame is has table)
-  table_of_device own id context frame (inr is) has table = inr (table_found own (stored_found parts id) context frame is has table)
-
-  no_part : (walk : PartialWalk) → Contains S.partial_walks walk → ⊥
-  no_part walk there = in_none walk there
+  table_of_device : (own : Space) (id : ℕ) (context : DeviceContext) (frame : ℕ) → Finds parts rows id context → space_of_context context ≡ Some own
+      → HaveTable parts.memory context.first_stage context.second_stage frame → DeviceTable parts rows own id frame
+  table_of_device own id context frame (inl (inl is)) has table = inl (inl (table_found own (cached_found parts id) context frame is has table))
+  table_of_device own id context frame (inl (inr is)) has table = inl (inr (table_found own (stored_found parts id) context frame is has table))
+  table_of_device own id context frame (inr is) has table = inr (inl (table_found own (sought_found parts rows id) context frame is has table))
 
   -- a walk that begins, begins at the root of a context of some device
-  pub begins_at : (s : AddressSpace) (table : ℕ) (steps_to : ℕ → List WalkStep) → WalkBegins S s table steps_to
-      → (id : ℕ) × (own : DeviceContext) × (tables : Tables) × (HasDevice S id × Finds parts id own)
+  abbrev AtSomeRoot : AddressSpace → ℕ → (ℕ → List WalkStep) → Type 0
+  AtSomeRoot s table steps_to =
+      (id : ℕ) × (own : DeviceContext) × (tables : Tables) × (HasDevice S id × Finds parts rows id own)
       × ((space_of_context own ≡ Some (cached_space s)) × ((tables_of (context_of own).stages ≡ Some tables) × ((tables.root ≡ table) × (steps_to ≡ steps_in (context_of own).stages))))
+
+  -- or it is a part of one that is under way
+  abbrev IsUnderWay : AddressSpace → ℕ → (ℕ → List WalkStep) → Type 0
+  IsUnderWay s table steps_to =
+      (id : ℕ) × (plug : Device) × (device_with parts.devices id ≡ Some plug)
+      × ((request : Request) × (context : DeviceContext) × (kept_in : Space) × (stands : TableWalk) × (part : Part) × Contains (parts_of stands) part
+      × ((table ≡ part.table) × ((steps_to ≡ part.steps_to) × ((kept_in ≡ cached_space s) × (serving_of rows id ≡ Some (GoesOn (InTables request context kept_in stands)))))))
+
+  part_way : (device : Option ℕ) (s : AddressSpace) (table : ℕ) (steps_to : ℕ → List WalkStep)
+      → Contains S.partial_walks (record { device = device; space = s; table = table; steps_to = steps_to }) → IsUnderWay s table steps_to
+  part_way device s table steps_to there =
+      let (id, own, is, (request, context, kept_in, stands, part, among, (same, serves))) = part_under_way rows walks (record { device = device; space = s; table = table; steps_to = steps_to }) there in
+      let (plug, at) = plugs id own is in
+      let named : kept_in ≡ cached_space s = sym (ap (λ (w : PartialWalk). cached_space w.space) same ∙ space_named_back kept_in) in
+      (id, plug, at, (request, context, kept_in, stands, part, among, (ap (λ (w : PartialWalk). w.table) same, (ap (λ (w : PartialWalk). w.steps_to) same, (named, serves)))))
+
+  begins_at : (s : AddressSpace) (table : ℕ) (steps_to : ℕ → List WalkStep) → WalkBegins S s table steps_to → AtSomeRoot s table steps_to ⊎ IsUnderWay s table steps_to
   begins_at s table steps_to (AtRoot id context tables may is decide root all) =
-      let (own, finds, same) = found_in id context may in (
+      let (own, finds, same) = found_in id context may in inl (
         id,
         own,
         tables,
@@ -221,12 +265,17 @@ module _ (trusted : ℕ → Bool) (parts : BoardParts) where
           (ap (λ (c : Context). tables_of c.stages) same ∙ decide, (root, all ∙ ap (λ (c : Context). steps_in c.stages) (sym same))),
         ),
       )
-  begins_at s table steps_to (PartWay id there) = absurd (no_part (record { device = id; space = s; table = table; steps_to = steps_to }) there)
+  begins_at s table steps_to (PartWay device there) = inr (part_way device s table steps_to there)
 
-  leaf_in : (s : AddressSpace) (kind : AccessKind) (frame table : ℕ) (steps_to : ℕ → List WalkStep) (mapping : Mapping) → WalkBegins S s table steps_to
-      → LeadsToMapping formats (slice_get parts.memory) table steps_to mapping → ServesKind mapping frame kind → SpaceLeaf parts (cached_space s) kind frame
-  leaf_in s kind frame table steps_to mapping begins leads serves =
-      let (id, own, tables, (device, finds), (named, (decide, (root, all)))) = begins_at s table steps_to begins in
+  leaf_in : (s : AddressSpace) (kind : AccessKind) (frame table : ℕ) (steps_to : ℕ → List WalkStep) (mapping : Mapping) → AtSomeRoot s table steps_to ⊎ IsUnderWay s table steps_to
+      → LeadsToMapping formats (slice_get parts.memory) table steps_to mapping → ServesKind mapping frame kind → SpaceLeaf parts rows (cached_space s) kind frame
+  leaf_in s kind frame table steps_to mapping (inr (id, plug, at, (request, context, kept_in, stands, part, among, (is_table, (is_steps, (named, under_way)))))) leads serves =
+      let (k, low, (here, same)) = device_place parts.devices id plug at in
+      let leads' = subst (λ (t : ℕ → List WalkStep). LeadsToMapping formats (slice_get parts.memory) part.table t mapping) is_steps
+      (subst (λ (t : ℕ). LeadsToMapping formats (slice_get parts.memory) t steps_to mapping) is_table leads) in
+      let led = part_leads parts.memory stands part kind frame among (mapping, leads', serves) in
+      (k, low, (plug, here, inr (inr (subst (λ i. SpaceLeads parts.memory (cached_space s) (serving_of rows i) kind frame) (sym same) (walking (serving_of rows id) request context kept_in stands (λ kept walk. (kept ≡ cached_space s) × WalkLeads parts.memory walk kind frame) under_way (named, led))))))
+  leaf_in s kind frame table steps_to mapping (inl (id, own, tables, (device, finds), (named, (decide, (root, all))))) leads serves =
       let (plug, at) = plugged id device in
       let (k, low, (here, same)) = device_place parts.devices id plug at in
       let leads' = subst (λ (t : ℕ → List WalkStep). LeadsToMapping formats (slice_get parts.memory) tables.root t mapping) all
@@ -236,7 +285,7 @@ module _ (trusted : ℕ → Bool) (parts : BoardParts) where
         (
           plug,
           here,
-          leaf_of_device (cached_space s) plug.id own kind frame (subst (λ i. Finds parts i own) (sym same) finds) named
+          leaf_of_device (cached_space s) plug.id own kind frame (subst (λ i. Finds parts rows i own) (sym same) finds) named
               (leads_leaf parts.memory own.first_stage own.second_stage own.gscid own.pscid.number kind frame (tables, mapping, decide, (leads', serves))),
         ),
       )
@@ -251,9 +300,9 @@ module _ (trusted : ℕ → Bool) (parts : BoardParts) where
       let h : own.rights ≡ mapping.rights = ap (λ (m : Mapping). m.rights) f in
       (record { space = cached_space s; page = page; translation = own }, at, (refl, (g ∙ same, ap (λ r. allows r kind) h ∙ allowed)))
 
-  pub in_space : (s : AddressSpace) (kind : AccessKind) (frame : ℕ) → IsInSpace S s frame kind → InSpace parts (cached_space s) kind frame
+  pub in_space : (s : AddressSpace) (kind : AccessKind) (frame : ℕ) → IsInSpace S s frame kind → InSpace parts rows (cached_space s) kind frame
   in_space s kind frame (inl (page, mapping, at, serves)) = inl (cached_in_space s page mapping kind frame (translations_of parts.iommu (cached_space s, page)) refl at serves)
-  in_space s kind frame (inr (table, steps_to, mapping, begins, leads, serves)) = inr (leaf_in s kind frame table steps_to mapping begins leads serves)
+  in_space s kind frame (inr (table, steps_to, mapping, begins, leads, serves)) = inr (leaf_in s kind frame table steps_to mapping (begins_at s table steps_to begins) leads serves)
 
   -- EN_ATS
 
@@ -313,17 +362,17 @@ module _ (trusted : ℕ → Bool) (parts : BoardParts) where
   -- CONTEXTS, AND ALL WAYS
 
   through_own : (device : Device) (own : DeviceContext) (kind : AccessKind) (frame : ℕ) → device_with parts.devices device.id ≡ Some device → (context : Context) → context_of own ≡ context
-      → Through S device.id context frame kind → ByAts parts.fabric device own.en_ats kind frame ⊎ ThroughSpace parts (space_of_context own) kind frame
+      → Through S device.id context frame kind → ByAts parts.fabric device own.en_ats kind frame ⊎ ThroughSpace parts rows (space_of_context own) kind frame
   through_own device own kind frame at context same (ThroughAts let_ats through) =
       inl (lets device.kind device device.id kind frame refl at refl through, ap (λ (c : Context). c.lets_ats) same ∙ let_ats)
   through_own device own kind frame at context same (Untranslated none) =
-      inr (subst (λ (o : Option Space). ThroughSpace parts o kind frame) (sym (no_space_by own.first_stage own.second_stage own (ap (λ (c : Context). c.stages) same ∙ none))) tt)
+      inr (subst (λ (o : Option Space). ThroughSpace parts rows o kind frame) (sym (no_space_by own.first_stage own.second_stage own (ap (λ (c : Context). c.stages) same ∙ none))) tt)
   through_own device own kind frame at context same (Translated s is reached) =
-      inr (subst (λ (o : Option Space). ThroughSpace parts o kind frame) (sym (space_named own s (ap (λ (c : Context). space_of c.stages) same ∙ is))) (in_space s kind frame reached))
+      inr (subst (λ (o : Option Space). ThroughSpace parts rows o kind frame) (sym (space_named own s (ap (λ (c : Context). space_of c.stages) same ∙ is))) (in_space s kind frame reached))
 
   through_found : (device : Device) (found : Option DeviceContext) (own : DeviceContext) (kind : AccessKind) (frame : ℕ) → found ≡ Some own
-      → ByAts parts.fabric device own.en_ats kind frame ⊎ ThroughSpace parts (space_of_context own) kind frame → ThroughFound parts device found kind frame
-  through_found device found own kind frame is through = subst (λ (o : Option DeviceContext). ThroughFound parts device o kind frame) (sym is) through
+      → ByAts parts.fabric device own.en_ats kind frame ⊎ ThroughSpace parts rows (space_of_context own) kind frame → ThroughFound parts rows device found kind frame
+  through_found device found own kind frame is through = subst (λ (o : Option DeviceContext). ThroughFound parts rows device o kind frame) (sym is) through
 
   flight_made : (row : Option FlightRow) (frame : ℕ) (kind : AccessKind) → Contains (flights_in row) (record { frame = frame; kind = kind })
       → ((own : FlightRow) → row ≡ Some own → length own.waiting ≤ 8) → (k : ℕ) × (k < 8) × IsThatAccess (waiting_at row k) kind frame
@@ -343,37 +392,62 @@ module _ (trusted : ℕ → Bool) (parts : BoardParts) where
   bare_mode mode.TwoLevels root is = absurd (cc)
   bare_mode mode.ThreeLevels root is = absurd (cc)
 
+  accepted : (device : Device) (frame : ℕ) (kind : AccessKind) → ((own : FlightRow) → row_of (flights_of parts.iommu).rows device.id ≡ Some own → length own.waiting ≤ 8)
+      → Contains (S.in_flight device.id) (record { frame = frame; kind = kind }) → IsAccepted parts rows device.id kind frame
+  accepted device frame kind few there =
+      elim (Contains-append_cases (flights_in (row_of (flights_of parts.iommu).rows device.id)) ((added_of rows).let_through device.id) (access_on frame kind) there) [
+        | inl flies ↦ inl (flight_made (row_of (flights_of parts.iommu).rows device.id) frame kind flies few)
+        | inr lets ↦ inr (lets_through rows walks device.id frame kind lets)
+      ]
+
+  -- a walk of the device that is under way
+  led_there : (id frame : ℕ) (kind : AccessKind) (s : AddressSpace) (table : ℕ) (steps_to : ℕ → List WalkStep) (mapping : Mapping)
+      → Contains S.partial_walks (record { device = Some id; space = s; table = table; steps_to = steps_to }) → LeadsToMapping formats (slice_get parts.memory) table steps_to mapping
+      → ServesKind mapping frame kind → RequestLeads parts.memory (serving_of rows id) kind frame
+  led_there id frame kind s table steps_to mapping there leads serves =
+      let (other, own, is, (request, context, kept_in, stands, part, among, (same, under_way))) = part_under_way rows walks (record { device = Some id; space = s; table = table; steps_to = steps_to }) there in
+      let leads' = subst (λ (w : PartialWalk). LeadsToMapping formats (slice_get parts.memory) w.table w.steps_to mapping) same leads in
+      let led = part_leads parts.memory stands part kind frame among (mapping, leads', serves) in
+      let some : Some id ≡ Some other = ap (λ (w : PartialWalk). w.device) same in
+      let named : id ≡ other = cc in
+      subst (λ i. RequestLeads parts.memory (serving_of rows i) kind frame) (sym named) (walking (serving_of rows other) request context kept_in stands (λ kept walk. WalkLeads parts.memory walk kind frame) under_way led)
+
   -- NO WAY IS MISSED
   pub way_of : (device : Device) (frame : ℕ) (kind : AccessKind) → device_with parts.devices device.id ≡ Some device
-      → ((own : FlightRow) → row_of (flights_of parts.iommu).rows device.id ≡ Some own → length own.waiting ≤ 8) → Way S device.id frame kind → WayOf parts device kind frame
-  way_of device frame kind at few (Accepted there) = inl (inl (inl (flight_made (row_of (flights_of parts.iommu).rows device.id) frame kind there few)))
-  way_of device frame kind at few (AnyFrame has bare) = inl (inl (inr (bare_mode (mode_in parts) (directory_root (registers_of parts.iommu)) bare)))
+      → ((own : FlightRow) → row_of (flights_of parts.iommu).rows device.id ≡ Some own → length own.waiting ≤ 8) → Way S device.id frame kind → WayOf parts rows device kind frame
+  way_of device frame kind at few (Accepted there) = inl (inl (inl (inl (accepted device frame kind few there))))
+  way_of device frame kind at few (AnyFrame has bare) = inl (inl (inl (inr (bare_mode (mode_in parts) (directory_root (registers_of parts.iommu)) bare))))
   way_of device frame kind at few (ByContext context may through) =
       let (own, finds, same) = found_in device.id context may in by own finds (through_own device own kind frame at context same through)
     where
-      by : (own : DeviceContext) → Finds parts device.id own → ByAts parts.fabric device own.en_ats kind frame ⊎ ThroughSpace parts (space_of_context own) kind frame → WayOf parts device kind frame
-      by own (inl is) through' = inl (inr (through_found device (cached_found parts device.id) own kind frame is through'))
-      by own (inr is) through' = inr (through_found device (stored_found parts device.id) own kind frame is through')
-  way_of device frame kind at few (OnTheWalk s table steps_to mapping there leads serves) =
-      absurd (no_part (record { device = Some device.id; space = s; table = table; steps_to = steps_to }) there)
+      by : (own : DeviceContext) → Finds parts rows device.id own → ByAts parts.fabric device own.en_ats kind frame ⊎ ThroughSpace parts rows (space_of_context own) kind frame → WayOf parts rows device kind frame
+      by own (inl (inl is)) through' = inl (inl (inr (through_found device (cached_found parts device.id) own kind frame is through')))
+      by own (inl (inr is)) through' = inl (inr (through_found device (stored_found parts device.id) own kind frame is through'))
+      by own (inr is) through' = inr (inl (through_found device (sought_found parts rows device.id) own kind frame is through'))
+  way_of device frame kind at few (OnTheWalk s table steps_to mapping there leads serves) = inr (inr (led_there device.id frame kind s table steps_to mapping there leads serves))
 
   -- nor a table that walks read
-  pub table_of : (frame : ℕ) → IsOfTables S frame → (s : Space) × SpaceTable parts s frame
-  table_of frame (s, table, steps_to, page, begins, reads) =
-      let (id, own, tables, (device, finds), (named, (decide, (root, all)))) = begins_at s table steps_to begins in
-      let (plug, at) = plugged id device in
-      let (k, low, (here, same)) = device_place parts.devices id plug at in
-      let reads' = subst (λ (t : ℕ → List WalkStep). ReadsFrame entry_format (slice_get parts.memory) tables.root (t page) frame) all
-      (subst (λ (r : ℕ). ReadsFrame entry_format (slice_get parts.memory) r (steps_to page) frame) (sym root) reads) in (
-        cached_space s,
-        (
-          k,
-          low,
-          (
-            plug,
-            here,
-            table_of_device (cached_space s) plug.id own frame (subst (λ i. Finds parts i own) (sym same) finds) named
-                (reads_table_of parts.memory own.first_stage own.second_stage own.gscid own.pscid.number frame (tables, page, decide, reads')),
-          ),
-        ),
-      )
+  pub table_of : (frame : ℕ) → IsOfTables S frame → (s : Space) × SpaceTable parts rows s frame
+  table_of frame (s, table, steps_to, page, begins, reads) = (cached_space s, by (begins_at s table steps_to begins))
+    where
+      by : AtSomeRoot s table steps_to ⊎ IsUnderWay s table steps_to → SpaceTable parts rows (cached_space s) frame
+      by (inl (id, own, tables, (device, finds), (named, (decide, (root, all))))) =
+          let (plug, at) = plugged id device in
+          let (k, low, (here, same)) = device_place parts.devices id plug at in
+          let reads' = subst (λ (t : ℕ → List WalkStep). ReadsFrame entry_format (slice_get parts.memory) tables.root (t page) frame) all
+          (subst (λ (r : ℕ). ReadsFrame entry_format (slice_get parts.memory) r (steps_to page) frame) (sym root) reads) in (
+            k,
+            low,
+            (
+              plug,
+              here,
+              table_of_device (cached_space s) plug.id own frame (subst (λ i. Finds parts rows i own) (sym same) finds) named
+                  (reads_table_of parts.memory own.first_stage own.second_stage own.gscid own.pscid.number frame (tables, page, decide, reads')),
+            ),
+          )
+      by (inr (id, plug, at, (request, context, kept_in, stands, part, among, (is_table, (is_steps, (named, under_way)))))) =
+          let (k, low, (here, same)) = device_place parts.devices id plug at in
+          let reads' = subst (λ (t : ℕ → List WalkStep). ReadsFrame entry_format (slice_get parts.memory) part.table (t page) frame) is_steps
+          (subst (λ (t : ℕ). ReadsFrame entry_format (slice_get parts.memory) t (steps_to page) frame) is_table reads) in
+          let read = part_reads parts.memory stands part frame among (page, reads') in
+          (k, low, (plug, here, inr (inr (subst (λ i. SpaceReads parts.memory (cached_space s) (serving_of rows i) frame) (sym same) (walking (serving_of rows id) request context kept_in stands (λ kept walk. (kept ≡ cached_space s) × WalkReads parts.memory walk frame) under_way (named, read))))))

@@ -11,6 +11,11 @@ use Rattle.iom_phys_mem.specs.Words.{word_at}
 use Rattle.iom_registers.specs.declared.directory.DirectoryMode.{DirectoryMode}
 use Rattle.iom_registers.specs.declared.directory.DirectoryMode.TheVariants as mode
 use Rattle.iom_registers.specs.Queues.{directory_mode, directory_root}
+use Rattle.iom_stepped_requests.specs.declared.walk.RequestWalk.TheVariants.{InDirectory, InTables}
+use Rattle.iom_stepped_requests.specs.declared.walk.Serving.{Serving}
+use Rattle.iom_stepped_requests.specs.declared.walk.Serving.TheVariants.{GoesOn, Served}
+use Rattle.iom_walks.specs.Walks.{WalkRow}
+use Rattle.iom_way_survey.specs.Walking.{serving_of}
 
 -- the page that an entry names
 abbrev pub next_page_of : Result NonLeafEntry Cause → Option ℕ
@@ -40,7 +45,18 @@ IsOnLevels mode.ThreeLevels memory root id frame = IsOnPath memory 2 root id fra
 abbrev pub PathReads : List (List ℕ) → DirectoryMode → ℕ → ℕ → ℕ → Type 0
 PathReads memory own root id frame = IsOnLevels own memory root id frame × (fits_directory own id ≡ true)
 
+-- a request that is on its way through the directory still reads the frame
+abbrev pub RequestLocates : List (List ℕ) → Option Serving → ℕ → Type 0
+RequestLocates memory None frame = ⊥
+RequestLocates memory (Some (GoesOn (InDirectory request anew walk))) frame = IsOnPath memory walk.level walk.page.number walk.id frame
+RequestLocates memory (Some (GoesOn (InTables request context kept_in walk))) frame = ⊥
+RequestLocates memory (Some (Served answer)) frame = ⊥
+
+-- the path from the root on, and that of a request that is under way
+abbrev pub PathsRead : List (List ℕ) → DirectoryMode → ℕ → List WalkRow → ℕ → ℕ → Type 0
+PathsRead memory own root rows id frame = PathReads memory own root id frame ⊎ RequestLocates memory (serving_of rows id) frame
+
 -- of some device that is plugged in
-abbrev pub DirectoryReads : BoardParts → ℕ → Type 0
-DirectoryReads parts frame = (k : ℕ) × (k < length parts.devices) × ((device : Device) × (slice_get parts.devices k ≡ Some device)
-    × PathReads parts.memory (directory_mode (registers_of parts.iommu)) (directory_root (registers_of parts.iommu)) device.id frame)
+abbrev pub DirectoryReads : BoardParts → List WalkRow → ℕ → Type 0
+DirectoryReads parts rows frame = (k : ℕ) × (k < length parts.devices) × ((device : Device) × (slice_get parts.devices k ≡ Some device)
+    × PathsRead parts.memory (directory_mode (registers_of parts.iommu)) (directory_root (registers_of parts.iommu)) rows device.id frame)

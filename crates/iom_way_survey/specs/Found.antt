@@ -1,9 +1,8 @@
 -- What the survey looks for, read off the parts of a hardware.
-use Rattle.std.specs.Prelude.{◌≡◌, ◌⊎◌, ℕ, Bool, true, false, ◌&&◌, List, ◌<◌, length, slice_get, Option, None, Some, Result, Ok, Err, ⊤, if◌then◌else◌}
+use Rattle.std.specs.Prelude.{◌≡◌, ◌⊎◌, ℕ, Bool, true, false, ◌&&◌, List, ◌<◌, length, slice_get, Option, None, Some, ⊤, if◌then◌else◌}
 use Rattle.iom_base.specs.Sizes.{levels_of}
 use Rattle.iom_base.specs.Rights.{allows}
 use Rattle.iom_base.specs.declared.access.AccessKind.{AccessKind}
-use Rattle.iom_base.specs.declared.cause.Cause.{Cause}
 use Rattle.iom_device_dir.specs.Located.{located_by_mode}
 use Rattle.iom_device_dir.specs.Paths.{fits_directory}
 use Rattle.iom_device_dir.specs.declared.context.Context.{Context as DeviceContext}
@@ -36,6 +35,9 @@ use Rattle.iom_tlb.specs.declared.space.Space.{Space}
 use Rattle.iom_tlb.specs.declared.cached_page.CachedPage.{CachedPage}
 use Rattle.iom_tlb.specs.Places.{IsCached}
 use Rattle.iom_tlb.specs.Ways.{Ways}
+use Rattle.iom_stepped_requests.specs.declared.walk.Serving.{Serving}
+use Rattle.iom_walks.specs.Walks.{WalkRow, under_way_of}
+use Rattle.iom_way_survey.specs.Walking.{found_of, serving_of, sought_by, RequestReads, RequestLeads, SpaceReads, SpaceLeads, IsLetThrough}
 
 -- ddtp names a directory
 abbrev pub has_directory : DirectoryMode → Bool
@@ -48,10 +50,6 @@ has_directory mode.ThreeLevels = true
 abbrev pub mode_in : BoardParts → DirectoryMode
 mode_in parts = directory_mode (registers_of parts.iommu)
 
-abbrev pub found_of : Result DeviceContext Cause → Option DeviceContext
-found_of (Ok context) = Some context
-found_of (Err cause) = None
-
 -- the context that is cached for the id, where a request finds it
 abbrev pub cached_found : BoardParts → ℕ → Option DeviceContext
 cached_found parts id = if has_directory (mode_in parts) && fits_directory (mode_in parts) id then contexts_of parts.iommu id else None
@@ -60,9 +58,13 @@ cached_found parts id = if has_directory (mode_in parts) && fits_directory (mode
 abbrev pub stored_found : BoardParts → ℕ → Option DeviceContext
 stored_found parts id = found_of (located_by_mode (mode_in parts) parts.memory (directory_root (registers_of parts.iommu)) id)
 
+-- the context to which the device's request comes that is on its way through the directory
+abbrev pub sought_found : BoardParts → List WalkRow → ℕ → Option DeviceContext
+sought_found parts rows id = sought_by parts.memory (serving_of rows id)
+
 -- a request of a device with the id may find this context
-abbrev pub Finds : BoardParts → ℕ → DeviceContext → Type 0
-Finds parts id context = (cached_found parts id ≡ Some context) ⊎ (stored_found parts id ≡ Some context)
+abbrev pub Finds : BoardParts → List WalkRow → ℕ → DeviceContext → Type 0
+Finds parts rows id context = ((cached_found parts id ≡ Some context) ⊎ (stored_found parts id ≡ Some context)) ⊎ (sought_found parts rows id ≡ Some context)
 
 -- what is looked at beside the cached context: the stored one, or nothing where that is the same
 abbrev pub IsBeside : Option DeviceContext → Option DeviceContext → Option DeviceContext → Type 0
@@ -96,19 +98,33 @@ abbrev pub FoundLeaf : List (List ℕ) → Space → Option DeviceContext → Ac
 FoundLeaf memory own None kind frame = ⊥
 FoundLeaf memory own (Some context) kind frame = (space_of_context context ≡ Some own) × HaveLeaf memory context.first_stage context.second_stage kind frame
 
--- so of one of the contexts that a request of the device may find
-abbrev pub DeviceTable : BoardParts → Space → ℕ → ℕ → Type 0
-DeviceTable parts own id frame = FoundTable parts.memory own (cached_found parts id) frame ⊎ FoundTable parts.memory own (stored_found parts id) frame
+-- so of one of the contexts that are looked up for the device
+abbrev pub LookedUpTable : BoardParts → Space → ℕ → ℕ → Type 0
+LookedUpTable parts own id frame = FoundTable parts.memory own (cached_found parts id) frame ⊎ FoundTable parts.memory own (stored_found parts id) frame
 
-abbrev pub DeviceLeaf : BoardParts → Space → ℕ → AccessKind → ℕ → Type 0
-DeviceLeaf parts own id kind frame = FoundLeaf parts.memory own (cached_found parts id) kind frame ⊎ FoundLeaf parts.memory own (stored_found parts id) kind frame
+abbrev pub LookedUpLeaf : BoardParts → Space → ℕ → AccessKind → ℕ → Type 0
+LookedUpLeaf parts own id kind frame = FoundLeaf parts.memory own (cached_found parts id) kind frame ⊎ FoundLeaf parts.memory own (stored_found parts id) kind frame
+
+-- of the context to which its request comes, or of the walk of tables that its request makes
+abbrev pub RequestTable : List (List ℕ) → Space → Option Serving → ℕ → Type 0
+RequestTable memory own serving frame = FoundTable memory own (sought_by memory serving) frame ⊎ SpaceReads memory own serving frame
+
+abbrev pub RequestLeaf : List (List ℕ) → Space → Option Serving → AccessKind → ℕ → Type 0
+RequestLeaf memory own serving kind frame = FoundLeaf memory own (sought_by memory serving) kind frame ⊎ SpaceLeads memory own serving kind frame
+
+-- of any of these
+abbrev pub DeviceTable : BoardParts → List WalkRow → Space → ℕ → ℕ → Type 0
+DeviceTable parts rows own id frame = LookedUpTable parts own id frame ⊎ RequestTable parts.memory own (serving_of rows id) frame
+
+abbrev pub DeviceLeaf : BoardParts → List WalkRow → Space → ℕ → AccessKind → ℕ → Type 0
+DeviceLeaf parts rows own id kind frame = LookedUpLeaf parts own id kind frame ⊎ RequestLeaf parts.memory own (serving_of rows id) kind frame
 
 -- of any device's
-abbrev pub SpaceTable : BoardParts → Space → ℕ → Type 0
-SpaceTable parts own frame = (k : ℕ) × (k < length parts.devices) × ((device : Device) × (slice_get parts.devices k ≡ Some device) × DeviceTable parts own device.id frame)
+abbrev pub SpaceTable : BoardParts → List WalkRow → Space → ℕ → Type 0
+SpaceTable parts rows own frame = (k : ℕ) × (k < length parts.devices) × ((device : Device) × (slice_get parts.devices k ≡ Some device) × DeviceTable parts rows own device.id frame)
 
-abbrev pub SpaceLeaf : BoardParts → Space → AccessKind → ℕ → Type 0
-SpaceLeaf parts own kind frame = (k : ℕ) × (k < length parts.devices) × ((device : Device) × (slice_get parts.devices k ≡ Some device) × DeviceLeaf parts own device.id kind frame)
+abbrev pub SpaceLeaf : BoardParts → List WalkRow → Space → AccessKind → ℕ → Type 0
+SpaceLeaf parts rows own kind frame = (k : ℕ) × (k < length parts.devices) × ((device : Device) × (slice_get parts.devices k ≡ Some device) × DeviceLeaf parts rows own device.id kind frame)
 
 -- ADDRESS SPACES
 
@@ -120,8 +136,8 @@ abbrev pub IsCachedIn : List Ways → Space → AccessKind → ℕ → Type 0
 IsCachedIn sets own kind frame = (cached : CachedPage) × IsCached sets cached × CachedLeadsTo own cached kind frame
 
 -- what is reached in the space
-abbrev pub InSpace : BoardParts → Space → AccessKind → ℕ → Type 0
-InSpace parts own kind frame = IsCachedIn (translation_cache_of parts.iommu) own kind frame ⊎ SpaceLeaf parts own kind frame
+abbrev pub InSpace : BoardParts → List WalkRow → Space → AccessKind → ℕ → Type 0
+InSpace parts rows own kind frame = IsCachedIn (translation_cache_of parts.iommu) own kind frame ⊎ SpaceLeaf parts rows own kind frame
 
 -- EN_ATS
 
@@ -162,22 +178,23 @@ ByAts fabric device lets kind frame = LetsDevice fabric device kind frame × (le
 -- CONTEXTS
 
 -- through a context with this address space; where it has none nothing is translated
-abbrev pub ThroughSpace : BoardParts → Option Space → AccessKind → ℕ → Type 0
-ThroughSpace parts None kind frame = ⊤
-ThroughSpace parts (Some own) kind frame = InSpace parts own kind frame
+abbrev pub ThroughSpace : BoardParts → List WalkRow → Option Space → AccessKind → ℕ → Type 0
+ThroughSpace parts rows None kind frame = ⊤
+ThroughSpace parts rows (Some own) kind frame = InSpace parts rows own kind frame
 
-abbrev pub TablesThrough : BoardParts → Option Space → ℕ → Type 0
-TablesThrough parts None frame = ⊥
-TablesThrough parts (Some own) frame = SpaceTable parts own frame
+abbrev pub TablesThrough : BoardParts → List WalkRow → Option Space → ℕ → Type 0
+TablesThrough parts rows None frame = ⊥
+TablesThrough parts rows (Some own) frame = SpaceTable parts rows own frame
 
 -- through a context that was found
-abbrev pub ThroughFound : BoardParts → Device → Option DeviceContext → AccessKind → ℕ → Type 0
-ThroughFound parts device None kind frame = ⊥
-ThroughFound parts device (Some context) kind frame = ByAts parts.fabric device context.en_ats kind frame ⊎ ThroughSpace parts (space_of_context context) kind frame
+abbrev pub ThroughFound : BoardParts → List WalkRow → Device → Option DeviceContext → AccessKind → ℕ → Type 0
+ThroughFound parts rows device None kind frame = ⊥
+ThroughFound parts rows device (Some context) kind frame =
+    ByAts parts.fabric device context.en_ats kind frame ⊎ ThroughSpace parts rows (space_of_context context) kind frame
 
-abbrev pub TablesFound : BoardParts → Option DeviceContext → ℕ → Type 0
-TablesFound parts None frame = ⊥
-TablesFound parts (Some context) frame = TablesThrough parts (space_of_context context) frame
+abbrev pub TablesFound : BoardParts → List WalkRow → Option DeviceContext → ℕ → Type 0
+TablesFound parts rows None frame = ⊥
+TablesFound parts rows (Some context) frame = TablesThrough parts rows (space_of_context context) frame
 
 -- DEVICES
 
@@ -189,19 +206,39 @@ IsThatAccess (Some made) kind frame = (frame ≡ made.frame) × (kind ≡ made.k
 abbrev pub IsInFlight : BoardParts → ℕ → AccessKind → ℕ → Type 0
 IsInFlight parts id kind frame = (k : ℕ) × (k < 8) × IsThatAccess (waiting_at (row_of (flights_of parts.iommu).rows id) k) kind frame
 
+-- or one is that has its answer, and is let through at a load to come
+abbrev pub IsAccepted : BoardParts → List WalkRow → ℕ → AccessKind → ℕ → Type 0
+IsAccepted parts rows id kind frame = IsInFlight parts id kind frame ⊎ IsLetThrough (under_way_of rows id) kind frame
+
 abbrev pub IsModeBare : BoardParts → Type 0
 IsModeBare parts = mode_in parts ≡ mode.Bare
 
+-- by accesses that are accepted, by ddtp, and by the contexts that are looked up
+abbrev pub LookedUpWay : BoardParts → List WalkRow → Device → AccessKind → ℕ → Type 0
+LookedUpWay parts rows device kind frame =
+    ((IsAccepted parts rows device.id kind frame ⊎ IsModeBare parts) ⊎ ThroughFound parts rows device (cached_found parts device.id) kind frame)
+    ⊎ ThroughFound parts rows device (stored_found parts device.id) kind frame
+
+-- by the context to which the device's request comes, and by the walk of tables that it makes
+abbrev pub RequestWay : BoardParts → List WalkRow → Device → AccessKind → ℕ → Type 0
+RequestWay parts rows device kind frame =
+    ThroughFound parts rows device (sought_found parts rows device.id) kind frame ⊎ RequestLeads parts.memory (serving_of rows device.id) kind frame
+
 -- all ways of a device that is plugged in
-abbrev pub WayOf : BoardParts → Device → AccessKind → ℕ → Type 0
-WayOf parts device kind frame =
-    ((IsInFlight parts device.id kind frame ⊎ IsModeBare parts) ⊎ ThroughFound parts device (cached_found parts device.id) kind frame)
-    ⊎ ThroughFound parts device (stored_found parts device.id) kind frame
+abbrev pub WayOf : BoardParts → List WalkRow → Device → AccessKind → ℕ → Type 0
+WayOf parts rows device kind frame = LookedUpWay parts rows device kind frame ⊎ RequestWay parts rows device kind frame
 
 -- the tables of the address spaces of its contexts
-abbrev pub TablesOfDevice : BoardParts → ℕ → ℕ → Type 0
-TablesOfDevice parts id frame = TablesFound parts (cached_found parts id) frame ⊎ TablesFound parts (stored_found parts id) frame
+abbrev pub TablesLookedUp : BoardParts → List WalkRow → ℕ → ℕ → Type 0
+TablesLookedUp parts rows id frame = TablesFound parts rows (cached_found parts id) frame ⊎ TablesFound parts rows (stored_found parts id) frame
+
+-- of that to which its request comes, and those that its request walks
+abbrev pub TablesOfRequest : BoardParts → List WalkRow → ℕ → ℕ → Type 0
+TablesOfRequest parts rows id frame = TablesFound parts rows (sought_found parts rows id) frame ⊎ RequestReads parts.memory (serving_of rows id) frame
+
+abbrev pub TablesOfDevice : BoardParts → List WalkRow → ℕ → ℕ → Type 0
+TablesOfDevice parts rows id frame = TablesLookedUp parts rows id frame ⊎ TablesOfRequest parts rows id frame
 
 -- of some device that is plugged in
-abbrev pub SomeTable : BoardParts → ℕ → Type 0
-SomeTable parts frame = (k : ℕ) × (k < length parts.devices) × ((device : Device) × (slice_get parts.devices k ≡ Some device) × TablesOfDevice parts device.id frame)
+abbrev pub SomeTable : BoardParts → List WalkRow → ℕ → Type 0
+SomeTable parts rows frame = (k : ℕ) × (k < length parts.devices) × ((device : Device) × (slice_get parts.devices k ≡ Some device) × TablesOfDevice parts rows device.id frame)

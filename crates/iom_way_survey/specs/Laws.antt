@@ -10,9 +10,11 @@ use Rattle.iom_reach.specs.Ways.{LeadsToMapping, ServesKind, Way}
 use Rattle.iom_device.specs.Caches.{device_with}
 use Rattle.iom_device.specs.declared.device.Device.{Device}
 use Rattle.iom_board.specs.BoardParts.{BoardParts}
-use Rattle.iom_hardware_ways.specs.Scenes.{scene_of}
 use Rattle.iom_inflight.specs.Flights.{FlightRow, row_of}
 use Rattle.iom_iommu.specs.Parts.{registers_of, flights_of}
+use Rattle.iom_walks.specs.Invariant.{AreWalks}
+use Rattle.iom_walks.specs.Walks.{UnderWay, WalkRow, under_way_of}
+use Rattle.iom_stepped_ways.specs.Scenes.{stepped_scene}
 use Rattle.iom_way_survey.specs.Directories.{DirectoryReads}
 use Rattle.iom_way_survey.specs.Found.{WayOf, SomeTable}
 use Rattle.iom_way_survey.specs.Queues.{IsOfFaults}
@@ -38,29 +40,38 @@ LevelsAreWalks = (memory : List (List ℕ)) (root frames below : ℕ) → PagesA
     → ((frame : ℕ) → IsTable (entries memory) (IsInRun root frames) (suc below) frame ↔ IsReadBelow memory root (widths_from frames below) frame)
     × ((kind : AccessKind) (frame : ℕ) → IsMapped (entries memory) (IsInRun root frames) (suc below) kind frame ↔ IsLedTo memory root (widths_from frames below) kind frame)
 
--- each way of a device that is plugged in, of whose accesses at most eight are in flight, is one of those that are looked for
+-- each device of which a request is under way is plugged in
+abbrev pub ArePlugged : BoardParts → List WalkRow → Type 0
+ArePlugged parts rows = (id : ℕ) (own : UnderWay) → under_way_of rows id ≡ Some own → (device : Device) × (device_with parts.devices id ≡ Some device)
+
+-- each way of a device that is plugged in, of whose accesses at most eight are in flight, is one of those that are looked for, where so is each device of which a
+-- request is under way
 abbrev pub WaysAreLookedFor : Type 0
-WaysAreLookedFor = (trusted : ℕ → Bool) (parts : BoardParts) (device : Device) (frame : ℕ) (kind : AccessKind) → device_with parts.devices device.id ≡ Some device
-    → ((own : FlightRow) → row_of (flights_of parts.iommu).rows device.id ≡ Some own → length own.waiting ≤ 8)
-    → Way (scene_of trusted parts) device.id frame kind → WayOf parts device kind frame
+WaysAreLookedFor = (trusted : ℕ → Bool) (parts : BoardParts) (rows : List WalkRow) (device : Device) (frame : ℕ) (kind : AccessKind) → AreWalks rows → ArePlugged parts rows
+    → device_with parts.devices device.id ≡ Some device → ((own : FlightRow) → row_of (flights_of parts.iommu).rows device.id ≡ Some own → length own.waiting ≤ 8)
+    → Way (stepped_scene trusted parts rows) device.id frame kind → WayOf parts rows device kind frame
 
 -- and each of these is one
 abbrev pub LooksFindWays : Type 0
-LooksFindWays = (trusted : ℕ → Bool) (parts : BoardParts) (device : Device) (frame : ℕ) (kind : AccessKind) → device_with parts.devices device.id ≡ Some device
-    → WayOf parts device kind frame → Way (scene_of trusted parts) device.id frame kind
+LooksFindWays = (trusted : ℕ → Bool) (parts : BoardParts) (rows : List WalkRow) (device : Device) (frame : ℕ) (kind : AccessKind) → AreWalks rows
+    → device_with parts.devices device.id ≡ Some device → WayOf parts rows device kind frame → Way (stepped_scene trusted parts rows) device.id frame kind
 
 -- the frames of tables that hardware reads are looked for
 abbrev pub TablesAreLookedFor : Type 0
-TablesAreLookedFor = (trusted : ℕ → Bool) (parts : BoardParts) (frame : ℕ) → IsOfTables (scene_of trusted parts) frame → SomeTable parts frame
+TablesAreLookedFor = (trusted : ℕ → Bool) (parts : BoardParts) (rows : List WalkRow) (frame : ℕ) → AreWalks rows → ArePlugged parts rows
+    → IsOfTables (stepped_scene trusted parts rows) frame → SomeTable parts rows frame
 
 -- and each of these is read
 abbrev pub LooksFindTables : Type 0
-LooksFindTables = (trusted : ℕ → Bool) (parts : BoardParts) (frame : ℕ) → SomeTable parts frame → IsOfTables (scene_of trusted parts) frame
+LooksFindTables = (trusted : ℕ → Bool) (parts : BoardParts) (rows : List WalkRow) (frame : ℕ) → AreWalks rows
+    → SomeTable parts rows frame → IsOfTables (stepped_scene trusted parts rows) frame
 
 -- so are those of the directory
 abbrev pub DirectoryIsLookedFor : Type 0
-DirectoryIsLookedFor = (trusted : ℕ → Bool) (parts : BoardParts) (frame : ℕ) → IsOfDirectory (scene_of trusted parts) frame → DirectoryReads parts frame
+DirectoryIsLookedFor = (trusted : ℕ → Bool) (parts : BoardParts) (rows : List WalkRow) (frame : ℕ) → AreWalks rows → ArePlugged parts rows
+    → IsOfDirectory (stepped_scene trusted parts rows) frame → DirectoryReads parts rows frame
 
 -- so are those of the fault queue, into which the IOMMU stores records
 abbrev pub FaultsAreLookedFor : Type 0
-FaultsAreLookedFor = (trusted : ℕ → Bool) (parts : BoardParts) (frame : ℕ) → Contains (scene_of trusted parts).fault_frames frame → IsOfFaults (registers_of parts.iommu) frame
+FaultsAreLookedFor = (trusted : ℕ → Bool) (parts : BoardParts) (rows : List WalkRow) (frame : ℕ) → Contains (stepped_scene trusted parts rows).fault_frames frame
+    → IsOfFaults (registers_of parts.iommu) frame

@@ -1,3 +1,4 @@
+pub mod Walking
 pub mod Found
 pub mod Directories
 pub mod Queues

@@ -4,15 +4,28 @@ use Rattle.std.specs.List.{find, list_any}
 use Rattle.iom_base.specs.declared.access.AccessKind.{AccessKind}
 use Rattle.iom_device.specs.declared.device.Device.{Device}
 use Rattle.iom_board.specs.BoardParts.{BoardParts}
+use Rattle.iom_walks.specs.Walks.{WalkRow}
 use Rattle.iom_reach.specs.Safe.{IsRead, HasWord, IsWritable}
 use Rattle.iom_reach.specs.Scene.{HardwareScene}
 use Rattle.iom_reach.specs.Ways.{Way}
+use Rattle.iom_hardware_ways.specs.Scenes.{scene_of}
+use Rattle.iom_stepped_ways.specs.Scenes.{stepped_scene}
 use Rattle.iom_table_survey.specs.Reaches.{frames_by, IsReachOf}
 use Rattle.iom_table_survey.specs.Rows.{row_has, frame_place, StandInBoth}
 use Rattle.iom_way_survey.specs.Found.{WayOf}
 use Rattle.iom_way_survey.specs.declared.findings.Conflict.{Conflict}
 use Rattle.iom_way_survey.specs.declared.findings.DeviceReach.{DeviceReach}
 use Rattle.iom_way_survey.specs.declared.findings.Survey.{Survey}
+
+-- the requests that are under way: none of hardware whose walks are whole
+abbrev pub rows_in : Option (List WalkRow) → List WalkRow
+rows_in None = []
+rows_in (Some rows) = rows
+
+-- the scene of hardware, and of what is under way beside it where its walks make one load an event
+abbrev pub scene_beside : (ℕ → Bool) → BoardParts → Option (List WalkRow) → HardwareScene
+scene_beside trusted parts None = scene_of trusted parts
+scene_beside trusted parts (Some rows) = stepped_scene trusted parts rows
 
 -- whether the number is one of these
 abbrev pub is_id_among : List ℕ → ℕ → Bool
@@ -27,19 +40,19 @@ abbrev pub reaches_in_rows : List DeviceReach → ℕ → AccessKind → ℕ →
 reaches_in_rows rows id kind frame = reach_in (find (λ (row : DeviceReach). row.id == id) rows) kind frame
 
 -- the row is the device's: what it reaches is all that is looked for
-pub record IsReachRow (parts : BoardParts) (trusted : List ℕ) (row : DeviceReach) (device : Device) : Type 0 where
+pub record IsReachRow (parts : BoardParts) (walks : List WalkRow) (trusted : List ℕ) (row : DeviceReach) (device : Device) : Type 0 where
   pub id : row.id ≡ device.id
   pub is_trusted : row.is_trusted ≡ is_id_among trusted device.id
-  pub reach : IsReachOf row.reach (WayOf parts device)
+  pub reach : IsReachOf row.reach (WayOf parts walks device)
 
 -- so many devices have their rows, in their order
-pub record HaveRows (parts : BoardParts) (trusted : List ℕ) (rows : List DeviceReach) (count : ℕ) : Type 0 where
+pub record HaveRows (parts : BoardParts) (walks : List WalkRow) (trusted : List ℕ) (rows : List DeviceReach) (count : ℕ) : Type 0 where
   pub long : length rows ≡ count
-  pub each : (k : ℕ) (row : DeviceReach) (device : Device) → slice_get rows k ≡ Some row → slice_get parts.devices k ≡ Some device → IsReachRow parts trusted row device
+  pub each : (k : ℕ) (row : DeviceReach) (device : Device) → slice_get rows k ≡ Some row → slice_get parts.devices k ≡ Some device → IsReachRow parts walks trusted row device
 
 -- each device has its own
-abbrev pub AreRowsOf : BoardParts → List ℕ → List DeviceReach → Type 0
-AreRowsOf parts trusted rows = HaveRows parts trusted rows (length parts.devices)
+abbrev pub AreRowsOf : BoardParts → List WalkRow → List ℕ → List DeviceReach → Type 0
+AreRowsOf parts walks trusted rows = HaveRows parts walks trusted rows (length parts.devices)
 
 -- nothing was found
 pub record IsOfNothing (survey : Survey) : Type 0 where

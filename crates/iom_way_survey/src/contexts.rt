@@ -4,15 +4,18 @@ ghost use Rattle.iom_board.specs.BoardParts.{board_parts};
 ghost use Rattle.iom_iommu.specs.Stages.{space_through};
 ghost use Rattle.iom_table_survey.specs.Reaches.{AddsReach};
 ghost use Rattle.iom_table_survey.specs.Rows.{GrowsBy};
-ghost use Rattle.iom_way_survey.specs.Found.{has_directory, cached_found, stored_found, found_of, space_of_context, HaveTable, HaveLeaf, FoundTable, FoundLeaf, IsBeside};
+ghost use Rattle.iom_way_survey.specs.Found.{has_directory, cached_found, stored_found, space_of_context, HaveTable, HaveLeaf, FoundTable, FoundLeaf, IsBeside};
+ghost use Rattle.iom_way_survey.specs.Walking.{sought_by};
 
 use crate::same::is_same;
-use iom_base::{Cause, DeviceId};
+use crate::walking::{located, sought_by};
+use iom_base::DeviceId;
 use iom_board::Board;
 use iom_device::Device;
 use iom_device_dir::{Context, FirstStage, SecondStage, fits_directory, locate};
 use iom_phys_mem::Memory;
 use iom_registers::{DirectoryMode, DirectoryPointer};
+use iom_stepped_requests::Serving;
 use iom_table_survey::{FrameRow, Reach, survey};
 use iom_tlb::Space;
 
@@ -34,16 +37,6 @@ pub(crate) fn device_at(hardware: &Board, place: usize) -> &Device
     match hardware.devices.get(place) {
         Some(device) => device,
         None => unreachable!(),
-    }
-}
-
-/// The context, where one was located.
-fn located(answer: Result<Context, Cause>) -> Option<Context>
-    ensures { result ≡ found_of answer }
-{
-    match answer {
-        Ok(context) => Some(context),
-        Err(_) => None,
     }
 }
 
@@ -90,6 +83,22 @@ pub(crate) fn stored_beside(
         return None;
     }
     stored
+}
+
+/// The context to which the device's request comes, where it isn't the one that the directory has: that one is looked at
+/// anyway.
+pub(crate) fn sought_beside(
+    hardware: &Board,
+    serving: Option<Serving>,
+    id: DeviceId,
+) -> Option<Context>
+    ensures { IsBeside (stored_found (board_parts hardware.now) id) (sought_by hardware.now.memory serving) result }
+{
+    let sought = sought_by(&hardware.memory, serving);
+    if is_same(sought, stored_in(hardware, id)) {
+        return None;
+    }
+    sought
 }
 
 /// The address space that the stages of the context translate. None where both are Bare.

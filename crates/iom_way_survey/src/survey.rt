@@ -6,7 +6,7 @@ ghost use Rattle.iom_reach.specs.Safe.{IsSafe};
 ghost use Rattle.iom_reach.specs.Scene.{HardwareScene};
 ghost use Rattle.iom_table_survey.specs.Rows.{row_has, GrowsBy, StandInBoth};
 ghost use Rattle.iom_way_survey.specs.Found.{TablesOfDevice, SomeTable};
-ghost use Rattle.iom_way_survey.specs.Surveys.{is_id_among, IsReachRow, reaches_in_rows, Surveys, IsSurveyOf, IsClash, AreRowsOf, IsConflictFree, IsConflict, IsFirstConflict};
+ghost use Rattle.iom_way_survey.specs.Surveys.{rows_in, is_id_among, IsReachRow, reaches_in_rows, Surveys, IsSurveyOf, IsClash, AreRowsOf, IsConflictFree, IsConflict, IsFirstConflict};
 ghost use Rattle.iom_way_survey.specs.declared.findings.Conflict.{Conflict};
 ghost use Rattle.iom_way_survey.specs.declared.findings.DeviceReach.{DeviceReach};
 
@@ -17,6 +17,7 @@ use iom_base::{AccessKind, DeviceId};
 use iom_board::Board;
 use iom_device::Device;
 use iom_table_survey::{FrameRow, Reach};
+use iom_walks::Walks;
 
 /// Whether the id is one of these.
 fn is_among(ids: &[DeviceId], id: DeviceId) -> bool
@@ -28,16 +29,17 @@ fn is_among(ids: &[DeviceId], id: DeviceId) -> bool
 /// All ways of a device; the tables that are walked for it go into `read`.
 fn survey_one(
     hardware: &Board,
+    walks: Option<&Walks>,
     device: &Device,
     trusted: &[DeviceId],
     read: &mut FrameRow,
 ) -> DeviceReach
     requires { length hardware.now.memory ≤ 4096 }
-    ensures row { IsReachRow (board_parts hardware.now) trusted.now result device.now }
-    ensures tables { GrowsBy read.old read.new (TablesOfDevice (board_parts hardware.now) device.now.id) }
+    ensures row { IsReachRow (board_parts hardware.now) (rows_in (option_map (λ w. w.now) walks.entry)) trusted.now result device.now }
+    ensures tables { GrowsBy read.old read.new (TablesOfDevice (board_parts hardware.now) (rows_in (option_map (λ w. w.now) walks.entry)) device.now.id) }
 {
     let mut reach = Reach::new();
-    survey_device(hardware, device, read, &mut reach);
+    survey_device(hardware, walks, device, read, &mut reach);
     DeviceReach {
         id: device.id,
         is_trusted: is_among(trusted, device.id),
@@ -48,6 +50,7 @@ fn survey_one(
 /// All ways of all devices.
 pub(crate) fn survey_devices(
     hardware: &Board,
+    walks: Option<&Walks>,
     trusted: &[DeviceId],
     rows: &mut Vec<DeviceReach>,
     read: &mut FrameRow,
@@ -56,13 +59,13 @@ pub(crate) fn survey_devices(
     requires few { length hardware.now.devices.items ≤ 16 }
     requires room { 16 ≤ vec_capacity rows.old }
     requires empty { rows.old.items ≡ [] }
-    ensures rows { AreRowsOf (board_parts hardware.now) trusted.now rows.new.items }
-    ensures tables { GrowsBy read.old read.new (SomeTable (board_parts hardware.now)) }
+    ensures rows { AreRowsOf (board_parts hardware.now) (rows_in (option_map (λ w. w.now) walks.entry)) trusted.now rows.new.items }
+    ensures tables { GrowsBy read.old read.new (SomeTable (board_parts hardware.now) (rows_in (option_map (λ w. w.now) walks.entry))) }
     ensures room { 16 ≤ vec_capacity rows.new }
 {
     for place in 0..hardware.devices.len() {
         let device = device_at(hardware, place);
-        let row = survey_one(hardware, device, trusted, read);
+        let row = survey_one(hardware, walks, device, trusted, read);
         rows.push(row).unwrap();
     }
 }

@@ -1,38 +1,32 @@
-use Rattle.std.proofs.Common.{◌≡◌, ◌⊎◌, ◌∙◌, inr, Option, subst, ap}
-use Rattle.iom_device_dir.specs.declared.context.Context.{Context as DeviceContext}
+use Rattle.std.proofs.Common.{Option, inr, subst, option_map}
 use Rattle.iom_board.specs.BoardParts.{board_parts}
-use Rattle.iom_registers.specs.Queues.{directory_mode}
-use Rattle.iom_registers.specs.declared.directory.DirectoryMode.{DirectoryMode}
-use Rattle.iom_registers.specs.declared.directory.DirectoryMode.TheVariants.{Bare}
+use Rattle.iom_stepped_requests.specs.declared.walk.Serving.{Serving}
 use Rattle.iom_table_survey.specs.Reaches.{AddsReach}
 use Rattle.iom_table_survey.specs.Rows.{GrowsBy}
-use Rattle.iom_table_survey.proofs.AddLemmas.{reach_then}
-use Rattle.iom_way_survey.specs.Found.{cached_found, stored_found, ThroughFound, TablesFound, IsInFlight, IsModeBare, IsBeside}
-use Rattle.iom_way_survey.proofs.StepLemmas.{beside_adds, beside_reaches}
+use Rattle.iom_way_survey.specs.Found.{IsBeside, LookedUpWay, TablesFound, TablesLookedUp, ThroughFound, stored_found}
+use Rattle.iom_way_survey.specs.Walking.{serving_of, sought_by, RequestReads, RequestLeads}
+use Rattle.iom_way_survey.proofs.StepLemmas.{adds_third, beside_adds, beside_reaches, reach_third}
+use Rattle.iom_way_survey.specs.Surveys.{rows_in}
 use Rattle.iom_way_survey.proofs.devices.survey_device.Goals as goal
 
 pub returns : goal.returns
 returns c =
     let parts = board_parts c.args.hardware.now in
+    let memory = c.args.hardware.now.memory in
+    let walks = rows_in (option_map (λ w. w.now) c.args.walks) in
     let device = c.args.device.now in
-    let start = c.args.reach.now in
-    let one = c.survey_flights.new.reach in
-    let two = c.survey_bare.new.reach in
-    let three = c.survey_through.new.reach in
-    let four = c.survey_through-2.new.reach in
-    let cached : Option DeviceContext = cached_found parts device.id in
-    let stored : Option DeviceContext = stored_found parts device.id in
-    let beside : Option DeviceContext = c.stored_beside-beside.result in
-    let is : IsBeside cached stored beside = subst (λ o. IsBeside o stored beside) c.cached_in-cached.ensures c.stored_beside-beside.ensures in
+    let serving = serving_of walks device.id in
+    let stored = stored_found parts device.id in
+    let sought = sought_by memory serving in
+    let beside = c.sought_beside-sought.result in
+    let is : IsBeside stored sought beside = subst (λ (o : Option Serving). IsBeside stored (sought_by memory o) beside) c.serving_beside-serving.ensures c.sought_beside-sought.ensures in
     record {
-      tables = beside_adds (TablesFound parts) (TablesFound parts cached) cached stored beside c.args.tables.now c.survey_through.new.tables c.survey_through-2.new.tables (λ f never. never)
-          (λ f it. it) is (subst (λ o. GrowsBy c.args.tables.now c.survey_through.new.tables (TablesFound parts o)) c.cached_in-cached.ensures c.survey_through.ensures.tables)
-          c.survey_through-2.ensures.tables;
-      reached = beside_reaches (ThroughFound parts device) (λ kind f. (IsInFlight parts device.id kind f ⊎ IsModeBare parts) ⊎ ThroughFound parts device cached kind f) cached stored beside start three four
-          (λ kind f never. never) (λ kind f it. inr it) is
-          (reach_then start two three (λ kind f. IsInFlight parts device.id kind f ⊎ IsModeBare parts) (ThroughFound parts device cached)
-          (reach_then start one two (IsInFlight parts device.id) (λ kind f. IsModeBare parts) c.survey_flights.ensures
-          (subst (λ (m : DirectoryMode). AddsReach one two (λ kind f. m ≡ Bare)) (c.directory_mode.ensures ∙ ap directory_mode c.registers.ensures) c.survey_bare.ensures))
-          (subst (λ o. AddsReach two three (ThroughFound parts device o)) c.cached_in-cached.ensures c.survey_through.ensures.reached))
-          c.survey_through-2.ensures.reached;
+      tables = adds_third c.args.tables.now c.survey_through.new.tables c.survey_request.new.tables (TablesLookedUp parts walks device.id) (TablesFound parts walks sought) (RequestReads memory serving)
+          (beside_adds (TablesFound parts walks) (TablesLookedUp parts walks device.id) stored sought beside c.args.tables.now c.survey_looked_up.new.tables c.survey_through.new.tables
+          (λ f never. never) (λ f it. inr it) is c.survey_looked_up.ensures.tables c.survey_through.ensures.tables)
+          (subst (λ (o : Option Serving). GrowsBy c.survey_through.new.tables c.survey_request.new.tables (RequestReads memory o)) c.serving_beside-serving.ensures c.survey_request.ensures.tables);
+      reached = reach_third c.args.reach.now c.survey_through.new.reach c.survey_request.new.reach (LookedUpWay parts walks device) (ThroughFound parts walks device sought) (RequestLeads memory serving)
+          (beside_reaches (ThroughFound parts walks device) (LookedUpWay parts walks device) stored sought beside c.args.reach.now c.survey_looked_up.new.reach c.survey_through.new.reach
+          (λ kind f never. never) (λ kind f it. inr it) is c.survey_looked_up.ensures.reached c.survey_through.ensures.reached)
+          (subst (λ (o : Option Serving). AddsReach c.survey_through.new.reach c.survey_request.new.reach (RequestLeads memory o)) c.serving_beside-serving.ensures c.survey_request.ensures.leaves);
     }

@@ -33,12 +33,13 @@ _Noreturn static inline void hw_fail(const char *why, const char *what)
 /* Says one line, as printf would print it, and gives its answer. */
 __attribute__((format(printf, 2, 3))) static inline const char *hw_say(struct hw *hw, const char *format, ...)
 {
+	char line[16384];
 	va_list arguments;
 	va_start(arguments, format);
-	vfprintf(hw->to, format, arguments);
+	vsnprintf(line, sizeof line, format, arguments);
 	va_end(arguments);
-	if (fputc('\n', hw->to) == EOF || fflush(hw->to) == EOF)
-		hw_fail("the program takes no line", format);
+	if (fprintf(hw->to, "%s\n", line) < 0 || fflush(hw->to) == EOF)
+		hw_fail("the program takes no line", line);
 	while (fgets(hw->answer, sizeof hw->answer, hw->from)) {
 		if (hw->answer[0] != '#') {
 			hw->answer[strcspn(hw->answer, "\n")] = 0;
@@ -47,7 +48,7 @@ __attribute__((format(printf, 2, 3))) static inline const char *hw_say(struct hw
 		if (hw->steps)
 			fputs(hw->answer, hw->steps);
 	}
-	hw_fail("the program gives no answer", format);
+	hw_fail("the program gives no answer", line);
 }
 
 /* Starts the program, with a memory of so many frames. The session goes to the file `log`, where that isn't NULL. */
@@ -61,6 +62,7 @@ static inline void hw_start(struct hw *hw, const char *program, const char *log,
 		dup2(from[1], 1);
 		close(to[0]), close(to[1]), close(from[0]), close(from[1]);
 		execlp(program, program, "--live", log ? "--log" : NULL, log, NULL);
+		perror(program);
 		_exit(127);
 	}
 	close(to[0]), close(from[1]);
