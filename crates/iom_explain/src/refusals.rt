@@ -19,7 +19,8 @@ fn remedy(refusal: Refusal) -> &'static str {
         Refusal::NotTrusted =>
             "only a device that obeys invalidations may have ATS: attach it without",
         Refusal::FrameOutOfRange => "memory has no such frame",
-        Refusal::FrameReserved => "a frame that is reserved isn't granted: choose one that is free",
+        Refusal::FrameReserved =>
+            "the frame is reserved, for the driver or for tables: choose another one",
         Refusal::IovaOutOfRange =>
             "the page is beyond the lower half of the addresses that the device's tables translate",
         Refusal::IovaBusy => "release what is held at the page first, and wait for its ticket",
@@ -33,7 +34,7 @@ fn remedy(refusal: Refusal) -> &'static str {
         Refusal::NumbersUsedUp => "no number is left for a fence",
         Refusal::Memory => "memory was refused",
         Refusal::StillGranted =>
-            "release what the device holds first, and wait until nothing of it lingers",
+            "release what the device still holds, if anything, and wait until nothing of it lingers",
         Refusal::IdTooWide => "the device directory of this world names no id as wide as this",
         Refusal::TooManyDevices => "16 devices are plugged in",
         Refusal::NotStarted => "the driver isn't started",
