@@ -3,10 +3,11 @@
 
     as_hardware.py --write IOMMU_RUN SCRIPT NAME
         writes NAME.hw, and NAME.out with the answers that are wanted of iommu-hw: those of iommu-run, translated
-    as_hardware.py --check IOMMU_RUN IOMMU_HW [--seeds N] [--traffic] [--mistake NAME] SCRIPT..
+    as_hardware.py --check IOMMU_RUN IOMMU_HW [--seeds N] [--traffic] [--stepped] [--mistake NAME] SCRIPT..
         for each script: are hardware's answers those of the world, is each claim good, is all of memory as in the world;
         and with hardware acting by itself before each line of software, from N seeds (20): is each claim good. With
-        --traffic the devices make requests then, too. With --mistake our driver has one. --mistakes names them.
+        --traffic the devices make requests then, too. With --stepped a walk takes several events, and answers aren't
+        compared with the world's. With --mistake our driver has one. --mistakes names them.
 
 A script with walks in several events isn't taken, nor one in which a block device gets a disk behind its detach, since hardware
 keeps its first one; nor is one that isn't in the grammar."""
@@ -203,11 +204,11 @@ class Live:
     """Asks hardware, which acts by itself before each line of software. Lines are said together up to the next one whose
     answer the driver needs."""
 
-    def __init__(self, program, frames, seed):
+    def __init__(self, program, frames, seed, pace):
         self.hw = subprocess.Popen([program, "--live"], stdin=subprocess.PIPE, stdout=subprocess.PIPE)
         self.waiting, self.size, self.wrong, self.said, self.steps = [], 0, [], 0, 0
         self.last = ""
-        self.say(f"hardware {frames}", "ok")
+        self.say(f"hardware {frames}{pace}", "ok")
         self.say(f"auto {seed}", "ok")
 
     def say(self, line, wanted=None):
@@ -363,12 +364,12 @@ def plain(hw, world):
     return wrong, len(port.lines), sum(line.startswith("claim ") for line in port.lines)
 
 
-def by_itself(hw, world, seed, mistake=None, traffic=False):
+def by_itself(hw, world, seed, mistake=None, traffic=False, pace=""):
     """What is wrong where hardware acts by itself, from the seed; with 0 it doesn't."""
-    port = Live(hw, frames_of(world), seed)
+    port = Live(hw, frames_of(world), seed, pace)
     _, others = drive(world, port, mistake, traffic_of(world) if traffic else ())
     wrong = port.end()
-    return wrong + (others if not seed and not mistake else []), port.said, port.steps
+    return wrong + (others if not seed and not mistake and not pace else []), port.said, port.steps
 
 
 class Found:
@@ -391,7 +392,7 @@ def left_out(text):
     return ""
 
 
-def check(path, run, hw, seeds, traffic, mistake):
+def check(path, run, hw, seeds, traffic, mistake, pace):
     found = Found(path)
     text = pathlib.Path(path).read_text()
     found.left_out = left_out(text)
@@ -403,13 +404,13 @@ def check(path, run, hw, seeds, traffic, mistake):
         found.left_out = str(why)
         return found
     try:
-        if mistake:
-            found.wrong = by_itself(hw, world, 0, mistake)[0]
+        if mistake or pace:
+            found.wrong = by_itself(hw, world, 0, mistake, False, pace)[0]
         else:
             found.wrong, found.lines, found.claims = plain(hw, world)
             found.wrong += by_itself(hw, world, 0)[0]
         for seed in range(1, seeds + 1):
-            wrong, said, steps = by_itself(hw, world, seed, mistake, traffic)
+            wrong, said, steps = by_itself(hw, world, seed, mistake, traffic, pace)
             found.said, found.steps = found.said + said, found.steps + steps
             if wrong:
                 found.seeds[seed] = wrong
@@ -426,13 +427,13 @@ def tell(found, mistake):
         print(f"{found.path}: {len(found.seeds)} seeds, the first {seed}: {wrong[0]}")
 
 
-def check_all(run, hw, paths, seeds, traffic, mistake):
+def check_all(run, hw, paths, seeds, traffic, mistake, pace):
     texts = {}
     for path in paths:
         texts.setdefault(pathlib.Path(path).read_bytes(), path)
     jobs = int(os.environ.get("J", "2"))
     with concurrent.futures.ProcessPoolExecutor(jobs) as pool:
-        all_found = list(pool.map(check, texts.values(), *([value] * len(texts) for value in (run, hw, seeds, traffic, mistake))))
+        all_found = list(pool.map(check, texts.values(), *([value] * len(texts) for value in (run, hw, seeds, traffic, mistake, pace))))
     taken = [found for found in all_found if not found.left_out]
     for found in taken:
         tell(found, mistake)
@@ -440,7 +441,7 @@ def check_all(run, hw, paths, seeds, traffic, mistake):
     for why in sorted({found.left_out for found in all_found if found.left_out}):
         print(f", {sum(found.left_out == why for found in all_found)} {why}", end="")
     print(f", {len(taken)} taken")
-    lines = "" if mistake else f" {sum(f.lines for f in taken)} lines, {sum(f.claims for f in taken)} claims;"
+    lines = "" if mistake or pace else f" {sum(f.lines for f in taken)} lines, {sum(f.claims for f in taken)} claims;"
     print(f"as written:{lines} wrong in {sum(bool(f.wrong) for f in taken)} scripts")
     print(f"by itself: {seeds} seeds each, {sum(f.said for f in taken)} lines, {sum(f.steps for f in taken)} steps of hardware; wrong in "
           f"{sum(bool(f.seeds) for f in taken)} scripts, {sum(len(f.seeds) for f in taken)} of {seeds * len(taken)} sessions")
@@ -474,10 +475,11 @@ def main():
     elif words[:1] == ["--check"] and len(words) > 3:
         seeds, mistake = int(option(words, "--seeds", "20")), option(words, "--mistake", None)
         traffic = "--traffic" in words
-        words = [word for word in words if word != "--traffic"]
+        pace = " stepped" if "--stepped" in words else ""
+        words = [word for word in words if word not in ("--traffic", "--stepped")]
         if mistake and mistake not in MISTAKES:
             sys.exit(__doc__)
-        sys.exit(1 if check_all(words[1], words[2], words[3:], seeds, traffic, mistake) else 0)
+        sys.exit(1 if check_all(words[1], words[2], words[3:], seeds, traffic, mistake, pace) else 0)
     else:
         sys.exit(__doc__)
 

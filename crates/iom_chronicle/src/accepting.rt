@@ -34,7 +34,7 @@ fn walked_to(hardware: &Board, context: &Context, page: u64, target: Target) -> 
 
 impl Chronicle {
     /// An access of the device at the address was just accepted, and nothing noticed since: keeps its line, and what let it
-    /// through, by what was remembered before this line.
+    /// through, by what was remembered before this line. Of a walk whose loads are events of their own, only where it ended.
     pub fn accepted(&mut self, hardware: &Board, device: DeviceId, address: u64, how: Entrance)
         ensures { self.new ≡ record self.old { flights = self.new.flights } }
     {
@@ -43,6 +43,7 @@ impl Chronicle {
             Entrance::Untranslated => self.through_stages(hardware, device, page),
             Entrance::Forged => Through::Forged,
             Entrance::ThroughCache => self.through_cache(device, page),
+            Entrance::Walk => Through::WalkEnded { line: self.line },
         };
         let origin = Origin {
             line: self.line,

@@ -10,6 +10,8 @@ pub enum Entrance {
     Forged,
     /// As a translated request, by what the device's own cache has.
     ThroughCache,
+    /// At an address that the IOMMU translates, by the last load of a walk whose loads are events of their own.
+    Walk,
 }
 
 /// What let an access through.
@@ -32,6 +34,10 @@ pub enum Through {
         address: u64,
         stored: u64,
         context_since: Option<u64>,
+    },
+    /// A walk whose loads are events of their own: its last load was made at that line.
+    WalkEnded {
+        line: u64,
     },
     Forged,
 }
@@ -70,6 +76,7 @@ impl fmt::Display for Through {
                 )?;
                 write_context(f, context_since)
             }
+            Through::WalkEnded { line } => write!(f, "walk that ended at line {line}"),
             Through::Forged => f.write_str("forged translated request, let through by EN_ATS"),
         }
     }

@@ -102,7 +102,7 @@ static READS: [(ReadAs, &str); 3] = [
 ];
 
 /// What let accesses through, as "violated: .., never granted: .." goes on.
-static ORIGINS: [(Through, &str); 7] = [
+static ORIGINS: [(Through, &str); 8] = [
     (Through::DirectoryBare, "ddtp in mode Bare"),
     (Through::StagesBare, "a context with both stages Bare"),
     (
@@ -132,6 +132,10 @@ static ORIGINS: [(Through, &str); 7] = [
             context_since: None,
         },
         "walk to the entry at 0x37018 stored at line 19",
+    ),
+    (
+        Through::WalkEnded { line: 79 },
+        "walk that ended at line 79",
     ),
     (
         Through::Forged,

@@ -3,7 +3,7 @@
 //!
 //! `data/drivers` has each script with its answers: correct drivers, drivers with one mistake each, scripts in which
 //! something is certain only as long as nobody but the driver writes what hardware reads, some in which a block device
-//! serves its queue, some in which hardware acts by itself, and the model's own driver as lines of hardware. A script's own text is run as
+//! serves its queue, some in which each load of a walk is an event of its own, some in which hardware acts by itself, and the model's own driver as lines of hardware. A script's own text is run as
 //! `iommu-hw` runs it.
 #![tactic(auto)]
 
@@ -11,7 +11,7 @@ use iom_hardware_runner::run;
 use std::{fs, io};
 
 /// The scripts of `data/drivers`. A new one is its two files and a line here.
-static DRIVERS: [&str; 58] = [
+static DRIVERS: [&str; 61] = [
     "correct-first",
     "correct-second",
     "correct-ats",
@@ -57,6 +57,9 @@ static DRIVERS: [&str; 58] = [
     "block-no-ats-inval",
     "large-leaf",
     "ready-in-both",
+    "table-freed-in-walk",
+    "stepped-begun-anew",
+    "stepped-block-no-drain",
     "auto-correct-first",
     "auto-correct-ats",
     "auto-fence-first",

@@ -14,6 +14,7 @@ use Rattle.iom_hardware_runner.specs.declared.machine.Machine.{Machine}
 use Rattle.iom_hardware_script.specs.declared.script.HardwareLine.{HardwareLine}
 use Rattle.iom_hardware_script.specs.declared.script.HardwareScript.{HardwareScript}
 use Rattle.iom_hardware_script.specs.declared.script.NumberedLine.{NumberedLine}
+use Rattle.iom_hardware_script.specs.declared.script.Setup.{Setup}
 use Rattle.iom_hardware_script.specs.Grammar.{IsSetupLine, IsHardwareLine, IsNumberedLine, numbered_lines, spoken_numbered, SaysHardwareScript, SayHardware, IsFirstBadHardwareLine}
 use Rattle.iom_script.proofs.CutLemmas.{cut_is_one, cut_has_separator}
 use Rattle.iom_script.proofs.ReadsLemmas.{read_nothing}
@@ -46,11 +47,11 @@ each_numbered (one ∷ all) (first ∷ said) each =
     (line ∷ others.0, ((refl, each.0), others.1))
 
 says_all : (all : List (ℕ × List ℕ)) (machine : Option Machine) → TookTexts (map text_of all) machine → (script : HardwareScript) × SaysHardwareScript all script
-says_all [] machine none = let nothing : HardwareScript = record { frames = None; lines = [] } in (nothing, (refl, refl))
-says_all (one ∷ all) machine (own, frames, said, same, setup, each, came) =
+says_all [] machine none = let nothing : HardwareScript = record { setup = None; lines = [] } in (nothing, (refl, refl))
+says_all (one ∷ all) machine (own, setup, said, same, is, each, came) =
     let others = each_numbered all said each in
-    let script : HardwareScript = record { frames = Some frames; lines = others.0 } in
-    (script, (frames, refl, setup, others.1))
+    let script : HardwareScript = record { setup = Some setup; lines = others.0 } in
+    (script, (setup, refl, is, others.1))
 
 says_texts : (texts : List (List ℕ)) (machine : Option Machine) → TookTexts (spoken texts) machine → (script : HardwareScript) × SayHardware texts script
 says_texts texts machine took = says_all (spoken_numbered texts) machine (subst (λ (l : List (List ℕ)). TookTexts l machine) (sym (spoken_texts 1 texts)) took)
@@ -63,11 +64,11 @@ each_text (one ∷ all) (line ∷ lines) each = let others = each_text all lines
 
 abbrev TextsSay : List (List ℕ) → Type 0
 TextsSay [] = ⊤
-TextsSay (setup ∷ texts) = (frames : ℕ) × (said : List HardwareLine) × IsSetupLine setup frames × SayEach IsHardwareLine texts said
+TextsSay (first ∷ texts) = (setup : Setup) × (said : List HardwareLine) × IsSetupLine first setup × SayEach IsHardwareLine texts said
 
 texts_say : (all : List (ℕ × List ℕ)) (script : HardwareScript) → SaysHardwareScript all script → TextsSay (map text_of all)
 texts_say [] script says = tt
-texts_say (one ∷ all) script (frames, is, setup, each) = let others = each_text all script.lines each in (frames, others.0, setup, others.1)
+texts_say (one ∷ all) script (setup, there, is, each) = let others = each_text all script.lines each in (setup, others.0, is, others.1)
 
 speaks_refused : (machine : Option Machine) (line : List ℕ) → IsRefused machine line → is_spoken line ≡ true
 speaks_refused None line refused = refused.0
@@ -75,9 +76,9 @@ speaks_refused (Some machine) line refused = refused.0
 
 -- what is refused doesn't come behind them
 refused_last : (texts : List (List ℕ)) (line : List ℕ) (machine : Option Machine) → TookTexts texts machine → IsRefused machine line → TextsSay (texts ++ line ∷ []) → ⊥
-refused_last [] line machine none refused (frames, said, setup, each) =
-    let nothing = subst (λ (m : Option Machine). IsRefused m line) none refused in read_nothing (IsSetupLine line) frames nothing.1 setup
-refused_last (first ∷ texts) line machine (own, frames, said, same, is, each, came) refused (other, more, setup, all) =
+refused_last [] line machine none refused (setup, said, is, each) =
+    let nothing = subst (λ (m : Option Machine). IsRefused m line) none refused in read_nothing (IsSetupLine line) setup nothing.1 is
+refused_last (first ∷ texts) line machine (own, setup, said, same, is, each, came) refused (other, more, other_is, all) =
     let nothing = subst (λ (m : Option Machine). IsRefused m line) same refused in
     let last = last_said IsHardwareLine texts more line all in read_nothing (IsHardwareLine line) last.0 nothing.1 last.1
 

@@ -2,3 +2,5 @@ pub mod RunLemmas
 pub mod TextLemmas
 pub mod BadLineLemmas
 pub mod ReadLemmas
+mod PaceLemmas
+pub mod UnderWayLemmas

@@ -8,6 +8,7 @@ use Rattle.iom_hardware_runner.specs.Runs.{Comes, TextsRun, ScriptRuns}
 use Rattle.iom_hardware_runner.specs.declared.faults.RunFault.{RunFault}
 use Rattle.iom_hardware_runner.specs.declared.machine.Machine.{Machine}
 use Rattle.iom_hardware_script.specs.declared.script.HardwareLine.{HardwareLine}
+use Rattle.iom_hardware_script.specs.declared.script.Setup.{Setup}
 use Rattle.iom_hardware_script.specs.Grammar.{IsSetupLine, IsHardwareLine}
 use Rattle.iom_script.specs.Grammar.{SayEach, is_spoken, spoken, bytes_of_lines}
 use Rattle.iom_script.specs.Cuts.{IsCut}
@@ -23,21 +24,21 @@ say_more (one ∷ texts) [] text line each is = absurd each
 say_more (one ∷ texts) (other ∷ said) text line each is = (each.0, say_more texts said text line each.1 is)
 
 -- the first line that says something
-pub first_text : (text : List ℕ) (machine : Machine) (frames : ℕ) → IsSetupLine text frames → CameBy frames [] machine → TookTexts (text ∷ []) (Some machine)
-first_text text machine frames is came = (machine, frames, [], refl, is, tt, came)
+pub first_text : (text : List ℕ) (machine : Machine) (setup : Setup) → IsSetupLine text setup → CameBy setup [] machine → TookTexts (text ∷ []) (Some machine)
+first_text text machine setup is came = (machine, setup, [], refl, is, tt, came)
 
 -- one more
 pub next_text : (texts : List (List ℕ)) (text : List ℕ) (line : HardwareLine) (old new : Machine) → IsHardwareLine text line → MachineTakesLine old line new → TookTexts texts (Some old)
     → TookTexts (texts ++ text ∷ []) (Some new)
 next_text [] text line old new is takes took = absurd (cc)
-next_text (setup ∷ texts) text line old new is takes (own, frames, said, same, setup_is, each, came) = (
+next_text (first ∷ texts) text line old new is takes (own, setup, said, same, first_is, each, came) = (
   new,
-  frames,
+  setup,
   said ++ line ∷ [],
   refl,
-  setup_is,
+  first_is,
   say_more texts said text line each is,
-  takes frames said (subst (λ (m : Machine). CameBy frames said m) (sym (inside same)) came),
+  takes setup said (subst (λ (m : Machine). CameBy setup said m) (sym (inside same)) came),
 )
   where
     inside : Some old ≡ Some own → old ≡ own
@@ -46,7 +47,7 @@ next_text (setup ∷ texts) text line old new is takes (own, frames, said, same,
 -- nothing was taken where there is no machine
 pub none_taken : (texts : List (List ℕ)) → TookTexts texts None → texts ≡ []
 none_taken [] took = refl
-none_taken (setup ∷ texts) (own, frames, said, same, is, each, came) = absurd (cc)
+none_taken (first ∷ texts) (own, setup, said, same, is, each, came) = absurd (cc)
 
 -- lines that say something, and one more
 pub spoken_more : (texts : List (List ℕ)) (text : List ℕ) → is_spoken text ≡ true → spoken (texts ++ text ∷ []) ≡ spoken texts ++ text ∷ []
@@ -110,16 +111,16 @@ whole_runs most bytes count machine wrong is (texts, whole, short, free, same, c
   where
     by : (said : List (List ℕ)) (m : Option Machine) → MatchOption m (wrong ≡ false) (λ own. wrong ≡ own.teller.is_wrong) → TookTexts said m → TextsRun said wrong
     by [] m e none = subst (λ (o : Option Machine). MatchOption o (wrong ≡ false) (λ own. wrong ≡ own.teller.is_wrong)) none e
-    by (setup ∷ rest) m e (own, frames, lines, there, setup_is, each, came) =
+    by (first ∷ rest) m e (own, setup, lines, there, first_is, each, came) =
         let same_wrong = subst (λ (o : Option Machine). MatchOption o (wrong ≡ false) (λ own. wrong ≡ own.teller.is_wrong)) there e in (
-          frames,
+          setup,
           lines,
           own.teller.session,
           came.claimed,
           own.helper.traffic.items,
-          setup_is,
+          first_is,
           each,
-          subst (λ (b : Bool). Comes frames lines own.teller.session came.claimed own.helper.traffic.items b) (sym same_wrong) came.comes,
+          subst (λ (b : Bool). Comes setup lines own.teller.session came.claimed own.helper.traffic.items b) (sym same_wrong) came.comes,
         )
 
 -- the machine answered: it took the line, where it is in the grammar

@@ -1,9 +1,10 @@
 -- Where the parts of a runner have come to: what their private functions keep. No public contract cites it.
-use Rattle.std.specs.Prelude.{◌≡◌, ℕ, ◌+◌, ◌<◌, ◌≤◌, ◌==◌, ◌||◌, ◌⊎◌, Bool, true, false, List, [], ◌∷◌, ◌++◌, length, Option, None, Some}
+use Rattle.std.specs.Prelude.{◌≡◌, ℕ, ◌+◌, ◌<◌, ◌≤◌, ◌==◌, ◌||◌, ◌⊎◌, Bool, true, false, List, [], ◌∷◌, ◌++◌, length, Option, None, Some, find, option_map, is_some}
 use Rattle.std.specs.List.{All, AllPass}
 use Rattle.iom_claims.specs.Claimed.{Claimed}
 use Rattle.iom_claims.specs.Shown.{ShowsClaimed}
-use Rattle.iom_hardware_runner.specs.Runs.{Comes, ComesToRest, RestsBehind, acts, asks_in, brings_to_rest, is_own, lines_of, NamesLine}
+use Rattle.iom_device.specs.declared.device.Device.{Device}
+use Rattle.iom_hardware_runner.specs.Runs.{Comes, ComesToRest, RestsBehind, acts, asks_in, brings_to_rest, is_own, is_stepped, lines_of, NamesLine}
 use Rattle.iom_hardware_runner.specs.declared.arriving.Arriving.{Arriving}
 use Rattle.iom_hardware_runner.specs.declared.faults.RunFault.{RunFault}
 use Rattle.iom_hardware_runner.specs.declared.faults.RunFault.TheVariants.{BadScript, Reading, Memory}
@@ -14,6 +15,7 @@ use Rattle.iom_hardware_runner.specs.declared.machine.Settling.TheVariants as se
 use Rattle.iom_hardware_runner.specs.declared.teller.Teller.{Teller}
 use Rattle.iom_hardware_script.specs.declared.script.HardwareLine.{HardwareLine}
 use Rattle.iom_hardware_script.specs.declared.script.HardwareScript.{HardwareScript}
+use Rattle.iom_hardware_script.specs.declared.script.Setup.{Setup}
 use Rattle.iom_hardware_script.specs.Grammar.{IsSetupLine, IsHardwareLine, SayHardware}
 use Rattle.iom_hardware_session.specs.Runs.{GoThrough, LineGoesOn, LineReply, is_any_reply_wrong, is_wrong}
 use Rattle.iom_script.specs.declared.parser.ScriptFault.{ScriptFault}
@@ -23,6 +25,7 @@ use Rattle.iom_script.specs.Grammar.{SayEach, is_spoken, spoken, bytes_of_lines}
 use Rattle.iom_script.specs.Reading.{Reads}
 use Rattle.iom_script_reading.specs.declared.reading.ReadFault.{ReadFault}
 use Rattle.iom_script_reading.specs.declared.reading.ReadFault.TheVariants as read_faults
+use Rattle.iom_walks.specs.Walks.{WalkRow, under_way_of}
 
 -- the session stays, and whether anything was wrong
 abbrev pub KeepsSession : Teller → Teller → Type 0
@@ -50,25 +53,33 @@ Rests old new = (before : Claimed) → ShowsClaimed old.session.claims before
 -- by this last thing, or by none
 abbrev pub RestsNow : Teller → Teller → Type 0
 RestsNow old new = (before : Claimed) → ShowsClaimed old.session.claims before
-    → (last : List LineReply) × (after : Claimed) × RestsBehind old.session.hardware.board (lines_of last) new.session.hardware.board × DoesSo old new before last after
+    → (last : List LineReply) × (after : Claimed) × RestsBehind old.session (lines_of last) new.session × DoesSo old new before last after
 
 -- by what came of a step on the way to rest
 abbrev pub SettlesSo : Settling → Teller → Teller → Type 0
 SettlesSo settling.Rests old new = RestsNow old new
-SettlesSo settling.Moved old new = Does (AllPass brings_to_rest) old new
-SettlesSo settling.Violated old new = Does (AllPass brings_to_rest) old new
+SettlesSo settling.Moved old new = Does (AllPass (brings_to_rest (is_stepped old.session))) old new
+SettlesSo settling.Violated old new = Does (AllPass (brings_to_rest (is_stepped old.session))) old new
 
 -- it did so many things at most
-abbrev pub AreFew : (may : ℕ → ℕ → Bool) → (most : ℕ) → List HardwareLine → Type 0
-AreFew may most own = AllPass (is_own may) own × (length own ≤ most)
+abbrev pub AreFew : (can : HardwareLine → Bool) → (most : ℕ) → List HardwareLine → Type 0
+AreFew can most own = AllPass can own × (length own ≤ most)
 
 -- the device makes requests there by itself
 abbrev pub asks_at : Helper → (device page : ℕ) → Bool
 asks_at helper device page = asks_in helper.traffic.items device page
 
+-- hardware does this by itself, as it stands and with this traffic
+abbrev pub does_itself : Teller → Helper → HardwareLine → Bool
+does_itself teller helper = is_own (is_stepped teller.session) (asks_at helper)
+
 -- it does where it did
 abbrev pub KeepsTraffic : Helper → Helper → Type 0
 KeepsTraffic old new = new.traffic.items ≡ old.traffic.items
+
+-- the id of the first of these devices of which a request is under way
+abbrev pub first_walking : List WalkRow → List Device → Option ℕ
+first_walking rows devices = option_map (λ (device : Device). device.id) (find (λ (device : Device). is_some (under_way_of rows device.id)) devices)
 
 -- hardware does nothing by itself
 abbrev pub is_off : Helper → Bool
@@ -79,22 +90,22 @@ abbrev pub StaysOff : Helper → Helper → Type 0
 StaysOff old new = is_off new ≡ false → is_off old ≡ false
 
 -- these lines were said, and the machine came so far by them; numbers are drawn only where hardware acts by itself
-pub record CameBy (frames : ℕ) (said : List HardwareLine) (machine : Machine) : Type 0 where
+pub record CameBy (setup : Setup) (said : List HardwareLine) (machine : Machine) : Type 0 where
   pub claimed : Claimed
-  pub comes : Comes frames said machine.teller.session claimed machine.helper.traffic.items machine.teller.is_wrong
+  pub comes : Comes setup said machine.teller.session claimed machine.helper.traffic.items machine.teller.is_wrong
   pub on : is_off machine.helper ≡ false → acts said ≡ true
 
 -- whatever was said before, the line was said too
 abbrev pub MachineTakesLine : Machine → HardwareLine → Machine → Type 0
-MachineTakesLine old next new = (frames : ℕ) (said : List HardwareLine) → CameBy frames said old → CameBy frames (said ++ next ∷ []) new
+MachineTakesLine old next new = (setup : Setup) (said : List HardwareLine) → CameBy setup said old → CameBy setup (said ++ next ∷ []) new
 
 -- the texts that say something were taken: none, and there is no machine; or that of the hardware, and then others
 abbrev pub TookTexts : List (List ℕ) → Option Machine → Type 0
 TookTexts [] machine = machine ≡ None
-TookTexts (setup ∷ texts) machine =
-    (own : Machine) × (frames : ℕ) × (said : List HardwareLine) × (machine ≡ Some own) × IsSetupLine setup frames × SayEach IsHardwareLine texts said × CameBy frames said own
+TookTexts (first ∷ texts) machine =
+    (own : Machine) × (setup : Setup) × (said : List HardwareLine) × (machine ≡ Some own) × IsSetupLine first setup × SayEach IsHardwareLine texts said × CameBy setup said own
 
--- the text isn't in the grammar in its place: it says something, and neither how much memory there is, where nothing was said yet, nor what happens
+-- the text isn't in the grammar in its place: it says something, and neither which hardware there is, where nothing was said yet, nor what happens
 abbrev pub IsRefused : Option Machine → List ℕ → Type 0
 IsRefused None text = (is_spoken text ≡ true) × Reads None (IsSetupLine text)
 IsRefused (Some machine) text = (is_spoken text ≡ true) × Reads None (IsHardwareLine text)

@@ -11,6 +11,7 @@ use iom_base::{DeviceId, PAGE_SIZE, Refusal};
 use iom_board::Board;
 use iom_hardware_script::HardwareLine;
 use iom_machine::Event;
+use iom_walks::Walks;
 use std::alloc::{AllocError, Global};
 
 /// For so many lines of software a mood lasts.
@@ -158,13 +159,21 @@ impl Helper {
         self.draws.below(self.mood.most() + 1)
     }
 
-    /// The step that it takes next, of those that it can take now. None where it can take none.
-    pub(crate) fn step(&mut self, hardware: &Board) -> Result<Option<Step>, AllocError>
+    /// The step that it takes next, of those that it can take now. None where it can take none. Requests are under way where a walk
+    /// takes several events.
+    pub(crate) fn step(
+        &mut self,
+        hardware: &Board,
+        walks: Option<&Walks>,
+    ) -> Result<Option<Step>, AllocError>
         ensures { KeepsTraffic self.old self.new }
     {
         self.steps.clear();
         add_fetch(&mut self.steps, hardware)?;
         add_commits(&mut self.steps, hardware)?;
+        if let Some(walks) = walks {
+            add_loads(&mut self.steps, hardware, walks)?;
+        }
         add_deliveries(&mut self.steps, hardware)?;
         add_requests(&mut self.steps, &mut self.draws, &self.traffic, hardware)?;
         add_block_steps(&mut self.steps, hardware)?;
@@ -178,12 +187,14 @@ impl Helper {
         self.traffic.iter().any(|row| row.is_at(device, page))
     }
 
-    /// Whether hardware or a device does this by itself.
-    pub(crate) fn does(&self, line: &HardwareLine) -> bool
-        ensures { result ≡ is_own (asks_at self.now) line.now }
+    /// Whether hardware or a device does this by itself: loads of walks where these take several events.
+    pub(crate) fn does(&self, is_stepped: bool, line: &HardwareLine) -> bool
+        ensures { result ≡ is_own is_stepped (asks_at self.now) line.now }
     {
-        let HardwareLine::Event(event) = line else {
-            return false;
+        let event = match line {
+            HardwareLine::Load { .. } => return is_stepped,
+            HardwareLine::Event(event) => event,
+            _ => return false,
         };
         match event {
             Event::Fetch | Event::Commit { .. } | Event::Deliver { .. } | Event::Step { .. } =>
@@ -220,6 +231,16 @@ fn add_commits(steps: &mut Vec<Step>, hardware: &Board) -> Result<(), AllocError
     for device in hardware.devices.iter() {
         if hardware.oldest(device.id).is_some() {
             steps.push(Step::Commit(device.id))?;
+        }
+    }
+    Ok(())
+}
+
+/// Each request that is under way can make its next load.
+fn add_loads(steps: &mut Vec<Step>, hardware: &Board, walks: &Walks) -> Result<(), AllocError> {
+    for device in hardware.devices.iter() {
+        if walks.is_walking(device.id) {
+            steps.push(Step::Load(device.id))?;
         }
     }
     Ok(())

@@ -1,10 +1,11 @@
 // Hardware under a driver: each line happens and is answered, and between two lines hardware may act by itself.
 ghost use Rattle.std.specs.Prelude.{◌≡◌, ◌↔◌, ◌&&◌, ◌++◌, ◌∷◌, [], ℕ, IsTrue, List, None, true, false, not, IfOk, IfErr, OnOk, IfSome};
-ghost use Rattle.iom_hardware_runner.specs.Parts.{is_off, StaysOff, asks_at, KeepsTraffic, TellsLine, Does, Rests, SettlesSo, AreFew, CameBy, MachineTakesLine, NamesNone};
+ghost use Rattle.iom_hardware_runner.specs.Parts.{is_off, StaysOff, does_itself, KeepsTraffic, TellsLine, Does, Rests, SettlesSo, AreFew, CameBy, MachineTakesLine, NamesNone};
 ghost use Rattle.iom_hardware_runner.specs.Runs.{is_of_software, is_help, AreDrawn, Directs, IsStill};
 ghost use Rattle.iom_hardware_script.specs.declared.script.HardwareLine.{HardwareLine as Line};
 ghost use Rattle.iom_hardware_script.specs.declared.script.HardwareLine.TheVariants as says;
 ghost use Rattle.iom_hardware_script.specs.declared.script.Help.TheVariants as helps;
+ghost use Rattle.iom_hardware_script.specs.declared.script.Setup.{Setup};
 ghost use Rattle.iom_hardware_script.specs.Grammar.{IsSetupLine, IsHardwareLine};
 ghost use Rattle.iom_iommu.specs.Parts.{registers_of};
 ghost use Rattle.iom_registers.specs.Queues.{command_head};
@@ -16,6 +17,7 @@ use crate::output::Output;
 use crate::settling::{is_fetch, is_still, settling_step};
 use crate::step::Step;
 use crate::teller::Teller;
+use crate::under_way::is_stepped;
 use iom_base::DeviceId;
 use iom_hardware_script::{HardwareLine, Help, NumberedLine, line_of, setup_of};
 use iom_hardware_session::Session;
@@ -48,7 +50,7 @@ fn is_of_software(line: &HardwareLine) -> bool
         | HardwareLine::RegisterWrite { .. }
         | HardwareLine::Claim(_)
         | HardwareLine::Event(Event::Poke { .. } | Event::Peek { .. }) => true,
-        HardwareLine::Event(_) | HardwareLine::Help(_) => false,
+        HardwareLine::Event(_) | HardwareLine::Load { .. } | HardwareLine::Help(_) => false,
     }
 }
 
@@ -81,17 +83,17 @@ fn put_quiet(
 impl Machine {
     /// The hardware that the first line of a script asks for, at power-on. None where the line asks for none.
     pub(crate) fn new(alloc: Global, text: &[u8]) -> Result<Option<Machine>, RunFault>
-        ensures begins { IfOk result (λ found. IfSome found (λ machine. (frames : ℕ) × IsSetupLine text.now frames × CameBy frames [] machine)) }
+        ensures begins { IfOk result (λ found. IfSome found (λ machine. (setup : Setup) × IsSetupLine text.now setup × CameBy setup [] machine)) }
         ensures refused { IfOk result (λ found. found ≡ None → Reads None (IsSetupLine text.now)) }
         ensures named { IfErr result NamesNone }
     {
-        let Some(frames) = setup_of(text) else {
+        let Some(setup) = setup_of(text) else {
             return Ok(None);
         };
-        let Ok(session) = Session::new(alloc, frames) else {
+        let Ok(session) = Session::new(alloc, setup) else {
             return Err(RunFault::Memory);
         };
-        let Ok(teller) = Teller::new(alloc, session, frames) else {
+        let Ok(teller) = Teller::new(alloc, session, setup.frames) else {
             return Err(RunFault::Memory);
         };
         Ok(Some(Machine {
@@ -170,11 +172,12 @@ impl Machine {
 
     /// Hardware takes the step that is drawn next, if it can take one.
     fn act_once(&mut self, output: &mut Output) -> Result<(), RunFault>
-        ensures acts { OnOk result (Does (AreFew (asks_at self.old.helper) 1) self.old.teller self.new.teller) }
+        ensures acts { OnOk result (Does (AreFew (does_itself self.old.teller self.old.helper) 1) self.old.teller self.new.teller) }
         ensures traffic { KeepsTraffic self.old.helper self.new.helper }
         ensures named { IfErr result NamesNone }
     {
-        let Ok(step) = self.helper.step(self.teller.session.hardware()) else {
+        let session = &self.teller.session;
+        let Ok(step) = self.helper.step(session.hardware(), session.walks()) else {
             return Err(RunFault::Memory);
         };
         match step {
@@ -185,7 +188,7 @@ impl Machine {
 
     /// Hardware takes so many steps by itself.
     fn act_often(&mut self, count: u64, output: &mut Output) -> Result<(), RunFault>
-        ensures acts { OnOk result (Does (AreFew (asks_at self.old.helper) count) self.old.teller self.new.teller) }
+        ensures acts { OnOk result (Does (AreFew (does_itself self.old.teller self.old.helper) count) self.old.teller self.new.teller) }
         ensures traffic { KeepsTraffic self.old.helper self.new.helper }
         ensures named { IfErr result NamesNone }
     {
@@ -197,7 +200,8 @@ impl Machine {
 
     /// Hardware takes as many steps by itself as are drawn.
     fn act(&mut self, output: &mut Output) -> Result<(), RunFault>
-        ensures acts { OnOk result (Does (AreDrawn (asks_at self.old.helper) (not (is_off self.old.helper))) self.old.teller self.new.teller) }
+        ensures acts { OnOk result (Does (AreDrawn (does_itself self.old.teller self.old.helper) (not (is_off self.old.helper)))
+            self.old.teller self.new.teller) }
         ensures off { StaysOff self.old.helper self.new.helper }
         ensures traffic { KeepsTraffic self.old.helper self.new.helper }
         ensures named { IfErr result NamesNone }
@@ -211,7 +215,8 @@ impl Machine {
 
     /// Before what software does hardware may act by itself.
     fn act_before(&mut self, said: &HardwareLine, output: &mut Output) -> Result<(), RunFault>
-        ensures acts { OnOk result (Does (AreDrawn (asks_at self.old.helper) (not (is_off self.old.helper) && is_of_software said.now)) self.old.teller self.new.teller) }
+        ensures acts { OnOk result (Does (AreDrawn (does_itself self.old.teller self.old.helper) (not (is_off self.old.helper) && is_of_software said.now))
+            self.old.teller self.new.teller) }
         ensures off { StaysOff self.old.helper self.new.helper }
         ensures traffic { KeepsTraffic self.old.helper self.new.helper }
         ensures named { IfErr result NamesNone }
@@ -225,14 +230,14 @@ impl Machine {
 
     /// What the text says happens. The words behind its answer; None where hardware does no such thing by itself.
     fn tell_step(&mut self, text: &str, output: &Output) -> Result<Option<String>, RunFault>
-        ensures acts { OnOk result (Does (AreFew (asks_at self.old.helper) 1) self.old.teller self.new.teller) }
+        ensures acts { OnOk result (Does (AreFew (does_itself self.old.teller self.old.helper) 1) self.old.teller self.new.teller) }
         ensures helper { self.new.helper ≡ self.old.helper }
         ensures named { IfErr result NamesNone }
     {
         let Some(said) = read(self.alloc, text.as_bytes())? else {
             return Ok(None);
         };
-        if !self.helper.does(&said) {
+        if !self.helper.does(is_stepped(&self.teller.session), &said) {
             return Ok(None);
         }
         let words = self.tell(said, output)?;
@@ -252,7 +257,7 @@ impl Machine {
 
     /// A step happens, and is told as a comment.
     fn take_step(&mut self, step: Step, output: &mut Output) -> Result<(), RunFault>
-        ensures acts { OnOk result (Does (AreFew (asks_at self.old.helper) 1) self.old.teller self.new.teller) }
+        ensures acts { OnOk result (Does (AreFew (does_itself self.old.teller self.old.helper) 1) self.old.teller self.new.teller) }
         ensures helper { self.new.helper ≡ self.old.helper }
         ensures named { IfErr result NamesNone }
     {
@@ -317,10 +322,10 @@ impl Machine {
 
     /// Whether hardware is still, and the head of the command queue is where it was.
     fn is_stuck(&self, head: u32) -> bool
-        ensures { IsTrue result ↔ (IsStill self.now.teller.session.hardware.board × (command_head (registers_of self.now.teller.session.hardware.board.iommu) ≡ head)) }
+        ensures { IsTrue result ↔ (IsStill self.now.teller.session.hardware.board self.now.teller.session.walks × (command_head (registers_of self.now.teller.session.hardware.board.iommu) ≡ head)) }
     {
-        let hardware = self.teller.session.hardware();
-        is_still(hardware) && hardware.iommu.registers().command_head() == head
+        let session = &self.teller.session;
+        is_still(session) && session.hardware().iommu.registers().command_head() == head
     }
 
     /// Takes the next step of those that bring hardware to rest. Whether there was one, or hardware rests; and whether it was a
@@ -330,9 +335,9 @@ impl Machine {
         ensures helper { self.new.helper ≡ self.old.helper }
         ensures named { IfErr result NamesNone }
     {
-        let hardware = self.teller.session.hardware();
-        let head = hardware.iommu.registers().command_head();
-        let Some(step) = settling_step(hardware) else {
+        let session = &self.teller.session;
+        let head = session.hardware().iommu.registers().command_head();
+        let Some(step) = settling_step(session) else {
             return Ok(Settling::Rests);
         };
         let is_fetch = is_fetch(&step);
@@ -366,7 +371,7 @@ impl Machine {
         Err(RunFault::TooManyEvents)
     }
 
-    /// Hardware comes to rest: what is in flight is made, what is under way delivered, and commands are taken.
+    /// Hardware comes to rest: what is in flight is made, what is under way delivered or walked to its end, and commands are taken.
     fn quiesce(&mut self, output: &mut Output) -> Result<(), RunFault>
         ensures rests { OnOk result (Rests self.old.teller self.new.teller) }
         ensures helper { self.new.helper ≡ self.old.helper }

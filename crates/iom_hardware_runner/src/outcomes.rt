@@ -16,8 +16,9 @@ use iom_command_queue::Command;
 use iom_fabric::{Repeat, Translation};
 use iom_hardware::Stepped;
 use iom_inflight::MadeAt;
-use iom_iommu::{Fetched, Reply};
+use iom_iommu::{Begun, Fetched, Load, Reply};
 use iom_script::{BUFFER_SIZE, LineBuffer};
+use iom_stepped_hardware::StepOutcome;
 use iom_virtqueue::ChainFault;
 
 /// Writes the words, in place of what stood there.
@@ -77,6 +78,26 @@ fn put_reply(out: &mut LineBuffer, reply: Reply) {
 pub(crate) fn put_replied(out: &mut LineBuffer, answer: Result<Reply, Refusal>) {
     match answer {
         Ok(reply) => put_reply(out, reply),
+        Err(why) => put_refusal(out, why),
+    }
+}
+
+/// Writes what becomes of a request that begins, where a walk takes several events.
+pub(crate) fn put_begun(out: &mut LineBuffer, answer: Result<Begun, Refusal>) {
+    match answer {
+        Ok(Begun::Answered(reply)) => put_reply(out, reply),
+        Ok(Begun::Walking) => put_words(out, b"walking"),
+        Ok(Begun::Occupied) => put_words(out, b"occupied"),
+        Err(why) => put_refusal(out, why),
+    }
+}
+
+/// Writes what becomes of a request at the next load of its walk.
+pub(crate) fn put_walk_load(out: &mut LineBuffer, answer: Result<Load, Refusal>) {
+    match answer {
+        Ok(Load::Nothing) => put_words(out, b"none"),
+        Ok(Load::Loaded) => put_words(out, b"loaded"),
+        Ok(Load::Ended(reply)) => put_reply(out, reply),
         Err(why) => put_refusal(out, why),
     }
 }
@@ -288,6 +309,15 @@ pub(crate) fn put_step(out: &mut LineBuffer, answer: Result<Stepped, Refusal>) {
         Ok(Stepped::Down) => put_words(out, b"down"),
         Ok(Stepped::Chain(fault)) => put_chain(out, fault),
         Ok(Stepped::Finished { head, len }) => put_finished(out, head, len),
+        Err(why) => put_refusal(out, why),
+    }
+}
+
+/// Writes what a step of a block device was, where a walk takes several events.
+pub(crate) fn put_step_outcome(out: &mut LineBuffer, answer: Result<StepOutcome, Refusal>) {
+    match answer {
+        Ok(StepOutcome::Walking) => put_words(out, b"walking"),
+        Ok(StepOutcome::Took(stepped)) => put_step(out, Ok(stepped)),
         Err(why) => put_refusal(out, why),
     }
 }

@@ -10,6 +10,8 @@ const PAGE_SIZE: u64 = 4096;
 pub(crate) enum Step {
     Fetch,
     Commit(DeviceId),
+    /// The device's request makes its next load.
+    Load(DeviceId),
     /// The message at the place, counted from 0, is delivered.
     Deliver(usize),
     /// The device reads the first byte of the page, of a number below 2^52.
@@ -33,6 +35,7 @@ impl fmt::Display for Step {
         match *self {
             Step::Fetch => f.write_str("fetch"),
             Step::Commit(device) => write!(f, "commit {device:06x}"),
+            Step::Load(device) => write!(f, "load {device:06x}"),
             Step::Deliver(place) => write!(f, "deliver {place}"),
             Step::Read(device, page) => {
                 let address = address_of(page);

@@ -11,13 +11,14 @@ use iom_base::{AccessKind, DeviceId, PAGE_SIZE};
 use iom_board::CacheReply;
 use iom_chronicle::{Chronicle, Entrance, Origin};
 use iom_command_queue::Command;
-use iom_hardware::Stepped as Begun;
+use iom_hardware::Stepped as BlockStep;
 use iom_hardware_script::{Claim, HardwareLine, NumberedLine};
 use iom_hardware_session::{Answer, ClaimAnswer, Session, Stepped};
 use iom_inflight::MadeAt;
-use iom_iommu::{Fetched, Reply};
+use iom_iommu::{Begun, Fetched, Load, Reply};
 use iom_machine::Event;
 use iom_script::LineBuffer;
+use iom_stepped_hardware::StepOutcome;
 use std::alloc::{AllocError, Global};
 
 /// A session, what is remembered of it, and the answer of the last line.
@@ -217,10 +218,13 @@ impl Teller {
         let mut origin = None;
         match answer {
             Answer::Replied(Ok(Reply::Accepted(_)))
+            | Answer::Begun(Ok(Begun::Answered(Reply::Accepted(_))))
             | Answer::ThroughCache(Ok(CacheReply::Replied(Reply::Accepted(_)))) => {
                 self.remember_access(event)
             }
-            Answer::TookStep(Ok(Begun::Began(Reply::Accepted(_)))) => self.remember_step(event)?,
+            Answer::TookStep(Ok(BlockStep::Began(Reply::Accepted(_))))
+            | Answer::StepOutcome(Ok(StepOutcome::Took(BlockStep::Began(Reply::Accepted(_))))) =>
+                self.remember_step(event)?,
             Answer::Committed(Ok(Some(made))) => origin = self.remember_made(*made),
             Answer::Fetched(
                 Fetched::Did(
@@ -235,6 +239,18 @@ impl Teller {
         }
         self.chronicle.notice(self.session.hardware());
         Ok(origin)
+    }
+
+    /// What is remembered of a load of the device's walk: where it let the access through, that it did.
+    fn remember_load(&mut self, device: DeviceId, answer: &Answer)
+        ensures { KeepsSession self.old self.new }
+    {
+        let hardware = self.session.hardware();
+        if let Answer::WalkLoad(Ok(Load::Ended(Reply::Accepted(_)))) = answer {
+            // Of a walk the line is kept alone, and not the address.
+            self.chronicle.accepted(hardware, device, 0, Entrance::Walk);
+        }
+        self.chronicle.notice(hardware);
     }
 
     fn remember_store(&mut self, event: &Event)
@@ -255,6 +271,7 @@ impl Teller {
         match &line.line {
             HardwareLine::Claim(claim) => self.tell_claim(&line.line, *claim),
             HardwareLine::Event(event) => self.tell_event(&line.line, event),
+            HardwareLine::Load { device } => Ok(self.tell_load(&line.line, *device)),
             HardwareLine::RegisterRead { .. }
             | HardwareLine::RegisterWrite { .. }
             | HardwareLine::Help(_) => {
@@ -316,6 +333,16 @@ impl Teller {
             Answer::Stored(_) | Answer::Plugged(_) | Answer::TookDisk(_) => self.tell_fallen(),
             _ => Ok(String::new(self.alloc)),
         }
+    }
+
+    /// The next load of the device's walk: there are no words behind its answer.
+    fn tell_load(&mut self, line: &HardwareLine, device: DeviceId) -> String
+        requires { self.old.session.hardware.board.events + 1 < 2 ^ 64 }
+        ensures { TellsLine self.old line.now self.new }
+    {
+        let stepped = self.step(line);
+        self.remember_load(device, &stepped.answer);
+        String::new(self.alloc)
     }
 
     /// What is told of an access that was made: that nothing claimed allows it; and which claims aren't good any more, where

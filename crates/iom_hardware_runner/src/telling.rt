@@ -5,8 +5,9 @@ ghost use Rattle.iom_hardware_script.specs.Answers.{hardware_answer_text};
 ghost use Rattle.iom_hardware_session.specs.Answered.{judgement_in};
 
 use crate::outcomes::{
-    put_cache, put_committed, put_delivered, put_done, put_fetched, put_loaded, put_refusal,
-    put_repeated, put_replied, put_sent, put_status, put_step, put_stored, put_words,
+    put_begun, put_cache, put_committed, put_delivered, put_done, put_fetched, put_loaded,
+    put_refusal, put_repeated, put_replied, put_sent, put_status, put_step, put_step_outcome,
+    put_stored, put_walk_load, put_words,
 };
 use iom_board::Board;
 use iom_hardware_script::{Answer as Text, HardwareLine, append_answer};
@@ -63,8 +64,11 @@ pub fn put_answer(out: &mut LineBuffer, line: &HardwareLine, answer: &Answer, ha
         | Answer::TookDisk(done)
         | Answer::QueueSet(done) => put_done(out, done),
         Answer::TookStep(stepped) => put_step(out, stepped),
+        Answer::StepOutcome(outcome) => put_step_outcome(out, outcome),
         Answer::Status(status) => put_status(out, status),
         Answer::Replied(reply) => put_replied(out, reply),
+        Answer::Begun(begun) => put_begun(out, begun),
+        Answer::WalkLoad(load) => put_walk_load(out, load),
         Answer::ThroughCache(reply) => put_cache(out, reply),
         Answer::Sent(sent) => put_sent(out, sent),
         Answer::Committed(made) => put_committed(out, hardware, made),

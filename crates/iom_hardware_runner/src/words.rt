@@ -1,4 +1,5 @@
 // The words behind `wrong: ` and `violated: `.
+use crate::under_way::{first_walking, next_reader};
 use iom_base::{AccessKind, DeviceId};
 use iom_chronicle::{Chronicle, Origin};
 use iom_hardware_session::{Found, Session, Wrong};
@@ -25,6 +26,9 @@ fn reached(
     let verb = can(kind);
     match chronicle.way(session.hardware(), device, frame, kind) {
         Some(way) => format!(in alloc; "{device:06x} can {verb} frame {frame} by {way}"),
+        None if first_walking(session).is_some() => {
+            format!(in alloc; "{device:06x} can {verb} frame {frame} by a walk that is under way")
+        }
         None => format!(in alloc; "{device:06x} can {verb} frame {frame}"),
     }
 }
@@ -70,8 +74,13 @@ fn used(
     chronicle: &Chronicle,
     frame: u32,
 ) -> Result<String, AllocError> {
-    match chronicle.use_of(session.hardware(), frame) {
-        Some(use_found) => format!(in alloc; "{use_found}"),
+    if let Some(use_found) = chronicle.use_of(session.hardware(), frame) {
+        return format!(in alloc; "{use_found}");
+    }
+    match next_reader(session, frame) {
+        Some(device) => {
+            format!(in alloc; "the walk of {device:06x} that is under way reads it next")
+        }
         None => format!(in alloc; "hardware uses it"),
     }
 }

@@ -14,6 +14,7 @@ use Rattle.iom_script.proofs.MeaningLemmas.{SayOne, HasFronts}
 use Rattle.iom_hardware_script.specs.declared.script.HardwareLine.{HardwareLine}
 use Rattle.iom_hardware_script.specs.declared.script.NumberedLine.{NumberedLine}
 use Rattle.iom_hardware_script.specs.declared.script.HardwareScript.{HardwareScript}
+use Rattle.iom_hardware_script.specs.declared.script.Setup.{Setup}
 use Rattle.iom_hardware_script.specs.Grammar.{IsHardwareLine, IsFrameCount, IsSetupLine, numbered_lines, spoken_numbered, IsNumberedLine, SaysHardwareScript, SayHardware, IsHardwareScript}
 use Rattle.iom_hardware_script.proofs.HardwareLineLemmas.{line_same}
 use Rattle.iom_hardware_script.proofs.SetupLemmas.{setup_same}
@@ -52,29 +53,29 @@ spoken_adds lines line number count said =
 
 -- the first line that says something
 
-says_setup : (lines : List (ℕ × List ℕ)) (old new : HardwareScript) (line : ℕ × List ℕ) (frames : ℕ) → SaysHardwareScript lines old → old.frames ≡ None → IsSetupLine line.1 frames
-    → new.frames ≡ Some frames → new.lines ≡ old.lines → SaysHardwareScript (lines ++ line ∷ []) new
-says_setup [] old new line frames say none here set others =
-    (frames, set, here, subst (SayEach IsNumberedLine []) (sym (others ∙ say.1)) tt)
-says_setup (l ∷ ls) old new line frames say none here set others = absurd (none-some say.0 (sym none ∙ say.1))
+says_setup : (lines : List (ℕ × List ℕ)) (old new : HardwareScript) (line : ℕ × List ℕ) (setup : Setup) → SaysHardwareScript lines old → old.setup ≡ None → IsSetupLine line.1 setup
+    → new.setup ≡ Some setup → new.lines ≡ old.lines → SaysHardwareScript (lines ++ line ∷ []) new
+says_setup [] old new line setup say none here set others =
+    (setup, set, here, subst (SayEach IsNumberedLine []) (sym (others ∙ say.1)) tt)
+says_setup (l ∷ ls) old new line setup say none here set others = absurd (none-some say.0 (sym none ∙ say.1))
 
-says_no_setup : (lines : List (ℕ × List ℕ)) (old script : HardwareScript) (line : ℕ × List ℕ) → SaysHardwareScript lines old → old.frames ≡ None → Reads None (IsSetupLine line.1)
+says_no_setup : (lines : List (ℕ × List ℕ)) (old script : HardwareScript) (line : ℕ × List ℕ) → SaysHardwareScript lines old → old.setup ≡ None → Reads None (IsSetupLine line.1)
     → SaysHardwareScript (lines ++ line ∷ []) script → ⊥
 says_no_setup [] old script line say none nothing q = read_nothing (IsSetupLine line.1) q.0 nothing q.2
 says_no_setup (l ∷ ls) old script line say none nothing q = none-some say.0 (sym none ∙ say.1)
 
 -- a later line that says something
 
-says_more : (lines : List (ℕ × List ℕ)) (old new : HardwareScript) (frames : ℕ) (line : ℕ × List ℕ) (said : NumberedLine) → SaysHardwareScript lines old → old.frames ≡ Some frames
-    → IsNumberedLine line said → new.frames ≡ old.frames → new.lines ≡ old.lines ++ said ∷ [] → SaysHardwareScript (lines ++ line ∷ []) new
-says_more [] old new frames line said say some here set others = absurd (none-some frames (sym say.0 ∙ some))
-says_more (l ∷ ls) old new frames line said say some here set others =
+says_more : (lines : List (ℕ × List ℕ)) (old new : HardwareScript) (setup : Setup) (line : ℕ × List ℕ) (said : NumberedLine) → SaysHardwareScript lines old → old.setup ≡ Some setup
+    → IsNumberedLine line said → new.setup ≡ old.setup → new.lines ≡ old.lines ++ said ∷ [] → SaysHardwareScript (lines ++ line ∷ []) new
+says_more [] old new setup line said say some here set others = absurd (none-some setup (sym say.0 ∙ some))
+says_more (l ∷ ls) old new setup line said say some here set others =
     (say.0, set ∙ say.1, say.2, subst (SayEach IsNumberedLine (ls ++ line ∷ [])) (sym others) (more_said IsNumberedLine ls old.lines line said say.3 here))
 
-says_no_more : (lines : List (ℕ × List ℕ)) (old script : HardwareScript) (frames : ℕ) (line : ℕ × List ℕ) → SaysHardwareScript lines old → old.frames ≡ Some frames
+says_no_more : (lines : List (ℕ × List ℕ)) (old script : HardwareScript) (setup : Setup) (line : ℕ × List ℕ) → SaysHardwareScript lines old → old.setup ≡ Some setup
     → Reads None (IsHardwareLine line.1) → SaysHardwareScript (lines ++ line ∷ []) script → ⊥
-says_no_more [] old script frames line say some nothing q = none-some frames (sym say.0 ∙ some)
-says_no_more (l ∷ ls) old script frames line say some nothing q =
+says_no_more [] old script setup line say some nothing q = none-some setup (sym say.0 ∙ some)
+says_no_more (l ∷ ls) old script setup line say some nothing q =
     let last = last_said IsNumberedLine ls script.lines line q.3 in read_nothing (IsHardwareLine line.1) last.0.line nothing last.1.1
 
 -- the same, of a line in its place
@@ -82,27 +83,27 @@ says_no_more (l ∷ ls) old script frames line say some nothing q =
 pub skipped : (old : HardwareScript) (number : ℕ) (line : List ℕ) → is_spoken line ≡ false → IsTakenAs SayHardware number old line old
 skipped old number line silent = λ lines count say. subst (λ ls. SaysHardwareScript ls old) (sym (spoken_skips lines line silent)) say
 
-pub setup_taken : (old new : HardwareScript) (number : ℕ) (line : List ℕ) (frames : ℕ) → is_spoken line ≡ true → old.frames ≡ None → Reads (Some frames) (IsSetupLine line)
-    → new.frames ≡ Some frames → new.lines ≡ old.lines → IsTakenAs SayHardware number old line new
-setup_taken old new number line frames said none reads set others = λ lines count say.
+pub setup_taken : (old new : HardwareScript) (number : ℕ) (line : List ℕ) (setup : Setup) → is_spoken line ≡ true → old.setup ≡ None → Reads (Some setup) (IsSetupLine line)
+    → new.setup ≡ Some setup → new.lines ≡ old.lines → IsTakenAs SayHardware number old line new
+setup_taken old new number line setup said none reads set others = λ lines count say.
     subst (λ ls. SaysHardwareScript ls new) (sym (spoken_adds lines line number count said))
-    (says_setup (spoken_numbered lines) old new (as_number number line) frames say none (read_holds (IsSetupLine line) frames reads) set others)
+    (says_setup (spoken_numbered lines) old new (as_number number line) setup say none (read_holds (IsSetupLine line) setup reads) set others)
 
-pub setup_refused : (old : HardwareScript) (number : ℕ) (line : List ℕ) → is_spoken line ≡ true → old.frames ≡ None → Reads None (IsSetupLine line) → IsRefusedAs SayHardware number old line
+pub setup_refused : (old : HardwareScript) (number : ℕ) (line : List ℕ) → is_spoken line ≡ true → old.setup ≡ None → Reads None (IsSetupLine line) → IsRefusedAs SayHardware number old line
 setup_refused old number line said none nothing = λ lines script count say q.
     says_no_setup (spoken_numbered lines) old script (as_number number line) say none nothing (subst (λ ls. SaysHardwareScript ls script) (spoken_adds lines line number count said) q)
 
-pub line_taken : (old new : HardwareScript) (frames number : ℕ) (line : List ℕ) (more : HardwareLine) (added : NumberedLine) → is_spoken line ≡ true → old.frames ≡ Some frames
-    → Reads (Some more) (IsHardwareLine line) → added.number ≡ number → added.line ≡ more → new.frames ≡ old.frames → new.lines ≡ old.lines ++ added ∷ []
+pub line_taken : (old new : HardwareScript) (setup : Setup) (number : ℕ) (line : List ℕ) (more : HardwareLine) (added : NumberedLine) → is_spoken line ≡ true → old.setup ≡ Some setup
+    → Reads (Some more) (IsHardwareLine line) → added.number ≡ number → added.line ≡ more → new.setup ≡ old.setup → new.lines ≡ old.lines ++ added ∷ []
     → IsTakenAs SayHardware number old line new
-line_taken old new frames number line more added said some reads at is set others = λ lines count say.
+line_taken old new setup number line more added said some reads at is set others = λ lines count say.
     subst (λ ls. SaysHardwareScript ls new) (sym (spoken_adds lines line number count said))
-    (says_more (spoken_numbered lines) old new frames (as_number number line) added say some (at, subst (IsHardwareLine line) (sym is) (read_holds (IsHardwareLine line) more reads)) set others)
+    (says_more (spoken_numbered lines) old new setup (as_number number line) added say some (at, subst (IsHardwareLine line) (sym is) (read_holds (IsHardwareLine line) more reads)) set others)
 
-pub line_refused : (old : HardwareScript) (frames number : ℕ) (line : List ℕ) → is_spoken line ≡ true → old.frames ≡ Some frames → Reads None (IsHardwareLine line)
+pub line_refused : (old : HardwareScript) (setup : Setup) (number : ℕ) (line : List ℕ) → is_spoken line ≡ true → old.setup ≡ Some setup → Reads None (IsHardwareLine line)
     → IsRefusedAs SayHardware number old line
-line_refused old frames number line said some nothing = λ lines script count say q.
-    says_no_more (spoken_numbered lines) old script frames (as_number number line) say some nothing (subst (λ ls. SaysHardwareScript ls script) (spoken_adds lines line number count said) q)
+line_refused old setup number line said some nothing = λ lines script count say q.
+    says_no_more (spoken_numbered lines) old script setup (as_number number line) say some nothing (subst (λ ls. SaysHardwareScript ls script) (spoken_adds lines line number count said) q)
 
 -- two lines with the same parts
 same_numbered : (x y : NumberedLine) → x.number ≡ y.number → x.line ≡ y.line → x ≡ y
@@ -115,10 +116,10 @@ numbered_same : (l : ℕ × List ℕ) (x y : NumberedLine) → IsNumberedLine l 
 numbered_same l x y p q = same_numbered x y (p.0 ∙ sym q.0) (line_same l.1 x.line y.line p.1 q.1)
 
 -- two scripts with the same parts
-same_script : (s t : HardwareScript) → s.frames ≡ t.frames → s.lines ≡ t.lines → s ≡ t
-same_script s t frames lines =
-    ap (λ (f : Option ℕ). let a : HardwareScript = record { frames = f; lines = s.lines } in a) frames
-    ∙ ap (λ (ls : List NumberedLine). let a : HardwareScript = record { frames = t.frames; lines = ls } in a) lines
+same_script : (s t : HardwareScript) → s.setup ≡ t.setup → s.lines ≡ t.lines → s ≡ t
+same_script s t setup lines =
+    ap (λ (h : Option Setup). let a : HardwareScript = record { setup = h; lines = s.lines } in a) setup
+    ∙ ap (λ (ls : List NumberedLine). let a : HardwareScript = record { setup = t.setup; lines = ls } in a) lines
 
 says_same : (lines : List (ℕ × List ℕ)) (s t : HardwareScript) → SaysHardwareScript lines s → SaysHardwareScript lines t → s ≡ t
 says_same [] s t p q = same_script s t (p.0 ∙ sym q.0) (p.1 ∙ sym q.1)
@@ -130,10 +131,10 @@ pub hardware_one : SayOne SayHardware
 hardware_one lines s t p q = says_same (spoken_numbered lines) s t p q
 
 says_front : (xs ys : List (ℕ × List ℕ)) (script : HardwareScript) → SaysHardwareScript (xs ++ ys) script → (front : HardwareScript) × SaysHardwareScript xs front
-says_front [] ys script say = let nothing : HardwareScript = record { frames = None; lines = [] } in (nothing, (refl, refl))
+says_front [] ys script say = let nothing : HardwareScript = record { setup = None; lines = [] } in (nothing, (refl, refl))
 says_front (x ∷ xs) ys script say =
     let others = each_front IsNumberedLine xs ys script.lines say.3 in
-    let front : HardwareScript = record { frames = Some say.0; lines = others.0 } in
+    let front : HardwareScript = record { setup = Some say.0; lines = others.0 } in
     (front, (say.0, refl, say.2, others.1))
 
 -- a front of lines that say a script says one
@@ -143,9 +144,13 @@ hardware_fronts xs ys script says =
 
 -- a script has memory of a size that there is
 
-said_frames : (lines : List (ℕ × List ℕ)) (script : HardwareScript) → SaysHardwareScript lines script → IfSome script.frames IsFrameCount
-said_frames [] script says = subst (λ f. IfSome f IsFrameCount) (sym says.0) tt
-said_frames (line ∷ lines) script says = subst (λ f. IfSome f IsFrameCount) (sym says.1) says.2.2
+-- where there is hardware, its memory has such a size
+abbrev pub HasRightSize : Option Setup → Type 0
+HasRightSize setup = IfSome setup (λ hardware. IsFrameCount hardware.frames)
 
-pub script_frames : (bytes : List ℕ) (script : HardwareScript) → IsHardwareScript bytes script → IfSome script.frames IsFrameCount
-script_frames bytes script is = said_frames (spoken_numbered is.0) script is.1.says
+said_setup : (lines : List (ℕ × List ℕ)) (script : HardwareScript) → SaysHardwareScript lines script → HasRightSize script.setup
+said_setup [] script says = subst HasRightSize (sym says.0) tt
+said_setup (line ∷ lines) script says = subst HasRightSize (sym says.1) says.2.2
+
+pub script_setup : (bytes : List ℕ) (script : HardwareScript) → IsHardwareScript bytes script → HasRightSize script.setup
+script_setup bytes script is = said_setup (spoken_numbered is.0) script is.1.says

@@ -12,6 +12,9 @@ use Rattle.iom_hardware_script.specs.declared.script.Help.TheVariants as helps
 use Rattle.iom_hardware_script.specs.declared.script.HardwareLine.{HardwareLine}
 use Rattle.iom_hardware_script.specs.declared.script.HardwareLine.TheVariants as says
 use Rattle.iom_hardware_script.specs.declared.script.NumberedLine.{NumberedLine}
+use Rattle.iom_hardware_script.specs.declared.script.Pace.{Pace}
+use Rattle.iom_hardware_script.specs.declared.script.Pace.TheVariants.{Whole, Stepped}
+use Rattle.iom_hardware_script.specs.declared.script.Setup.{Setup}
 use Rattle.iom_hardware_script.specs.declared.script.HardwareScript.{HardwareScript}
 
 -- whether devices or hardware do this, or it is a store or a load of the processor
@@ -89,15 +92,22 @@ IsHardwareLine line (says.RegisterWrite offset width value) =
 IsHardwareLine line (says.Claim claim) =
     (text : List ℕ) × IsClaim text claim × (line ≡ codes "claim" ␣ text)
 IsHardwareLine line (says.Help help) = IsHelp line help
+IsHardwareLine line (says.Load device) =
+    (id : List ℕ) × IsDevice id device × (line ≡ codes "load" ␣ id)
 
 -- so many frames as a memory can have: 64 to 4,096
 abbrev pub IsFrameCount : ℕ → Type 0
 IsFrameCount frames = (64 ≤ frames) × (frames ≤ 4096)
 
--- the line, without its line feed, says how many frames the memory of the hardware has
-abbrev pub IsSetupLine : List ℕ → ℕ → Type 0
-IsSetupLine line frames =
-    (f : List ℕ) × IsNumber f frames × IsFrameCount frames × (line ≡ codes "hardware" ␣ f)
+-- a first line, by the word of its number: the pace is named where each load is an event of its own
+abbrev pub setup_words : Pace → List ℕ → List ℕ
+setup_words Whole f = codes "hardware" ␣ f
+setup_words Stepped f = codes "hardware" ␣ f ␣ codes "stepped"
+
+-- the line, without its line feed, says how many frames the memory of the hardware has, and how many events a walk takes
+abbrev pub IsSetupLine : List ℕ → Setup → Type 0
+IsSetupLine line setup =
+    (f : List ℕ) × IsNumber f setup.frames × IsFrameCount setup.frames × (line ≡ setup_words setup.pace f)
 
 -- the lines with their numbers, the first of which is this
 abbrev pub numbered_lines : ℕ → List (List ℕ) → List (ℕ × List ℕ)
@@ -112,11 +122,11 @@ spoken_numbered lines = filter (λ line. is_spoken line.1) (numbered_lines 1 lin
 abbrev pub IsNumberedLine : ℕ × List ℕ → NumberedLine → Type 0
 IsNumberedLine line said = (said.number ≡ line.0) × IsHardwareLine line.1 said.line
 
--- Lines that all say something make a script: none of them, or one that says how much memory there is, and then the others.
+-- Lines that all say something make a script: none of them, or one that says which hardware there is, and then the others.
 abbrev pub SaysHardwareScript : List (ℕ × List ℕ) → HardwareScript → Type 0
-SaysHardwareScript [] script = (script.frames ≡ None) × (script.lines ≡ [])
+SaysHardwareScript [] script = (script.setup ≡ None) × (script.lines ≡ [])
 SaysHardwareScript (line ∷ lines) script =
-    (frames : ℕ) × (script.frames ≡ Some frames) × IsSetupLine line.1 frames × SayEach IsNumberedLine lines script.lines
+    (setup : Setup) × (script.setup ≡ Some setup) × IsSetupLine line.1 setup × SayEach IsNumberedLine lines script.lines
 
 -- the lines say the script, those that say something
 abbrev pub SayHardware : List (List ℕ) → HardwareScript → Type 0

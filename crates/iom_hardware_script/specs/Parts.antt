@@ -1,4 +1,4 @@
--- The kinds of lines one by one: what the private functions below `line_of` read. No public contract cites it.
+-- The kinds of lines one by one: what the private functions below `line_of` and `setup_of` read. No public contract cites it.
 use Rattle.std.specs.Prelude.{◌≡◌, ℕ, List, codes, ⊤}
 use Rattle.iom_hardware_script.specs.declared.script.Claim.{Claim}
 use Rattle.iom_hardware_script.specs.declared.script.Claim.TheVariants as claims
@@ -6,6 +6,9 @@ use Rattle.iom_hardware_script.specs.declared.script.Help.{Help}
 use Rattle.iom_hardware_script.specs.declared.script.Help.TheVariants as helps
 use Rattle.iom_hardware_script.specs.declared.script.HardwareLine.{HardwareLine}
 use Rattle.iom_hardware_script.specs.declared.script.HardwareLine.TheVariants as says
+use Rattle.iom_hardware_script.specs.declared.script.Pace.{Pace}
+use Rattle.iom_hardware_script.specs.declared.script.Pace.TheVariants.{Whole, Stepped}
+use Rattle.iom_script.specs.Words.{◌␣◌, IsNumber}
 use Rattle.iom_hardware_script.specs.Grammar.{IsClaim, IsHelp, IsHardwareLine}
 
 -- what the text of a claim begins with: its first word, and a space
@@ -39,6 +42,7 @@ IsRegisterRead (says.RegisterWrite offset width value) = ⊥
 IsRegisterRead (says.Claim claim) = ⊥
 IsRegisterRead (says.Event event) = ⊥
 IsRegisterRead (says.Help help) = ⊥
+IsRegisterRead (says.Load device) = ⊥
 
 -- a register is written
 abbrev pub IsRegisterWrite : HardwareLine → Type 0
@@ -47,6 +51,7 @@ IsRegisterWrite (says.RegisterWrite offset width value) = ⊤
 IsRegisterWrite (says.Claim claim) = ⊥
 IsRegisterWrite (says.Event event) = ⊥
 IsRegisterWrite (says.Help help) = ⊥
+IsRegisterWrite (says.Load device) = ⊥
 
 -- something is claimed
 abbrev pub IsClaimed : HardwareLine → Type 0
@@ -55,6 +60,16 @@ IsClaimed (says.RegisterWrite offset width value) = ⊥
 IsClaimed (says.Claim claim) = ⊤
 IsClaimed (says.Event event) = ⊥
 IsClaimed (says.Help help) = ⊥
+IsClaimed (says.Load device) = ⊥
+
+-- the next load of a walk is made
+abbrev pub IsLoad : HardwareLine → Type 0
+IsLoad (says.RegisterRead offset width) = ⊥
+IsLoad (says.RegisterWrite offset width value) = ⊥
+IsLoad (says.Claim claim) = ⊥
+IsLoad (says.Event event) = ⊥
+IsLoad (says.Help help) = ⊥
+IsLoad (says.Load device) = ⊤
 
 -- software does it: a register is read or written, or something is claimed
 abbrev pub IsOfSoftware : HardwareLine → Type 0
@@ -63,6 +78,7 @@ IsOfSoftware (says.RegisterWrite offset width value) = ⊤
 IsOfSoftware (says.Claim claim) = ⊤
 IsOfSoftware (says.Event event) = ⊥
 IsOfSoftware (says.Help help) = ⊥
+IsOfSoftware (says.Load device) = ⊥
 
 -- the line says this, and it is of that kind
 abbrev pub IsRegisterReadLine : List ℕ → HardwareLine → Type 0
@@ -74,5 +90,17 @@ IsRegisterWriteLine line said = IsRegisterWrite said × IsHardwareLine line said
 abbrev pub IsClaimLine : List ℕ → HardwareLine → Type 0
 IsClaimLine line said = IsClaimed said × IsHardwareLine line said
 
+abbrev pub IsLoadLine : List ℕ → HardwareLine → Type 0
+IsLoadLine line said = IsLoad said × IsHardwareLine line said
+
 abbrev pub IsSoftwareLine : List ℕ → HardwareLine → Type 0
 IsSoftwareLine line said = IsOfSoftware said × IsHardwareLine line said
+
+-- what stands behind `hardware`: the word of a number, and that of the pace where it is named
+abbrev pub paced_words : Pace → List ℕ → List ℕ
+paced_words Whole f = f
+paced_words Stepped f = f ␣ codes "stepped"
+
+-- the words behind `hardware` say the number and the pace
+abbrev pub IsSizeAndPace : List ℕ → ℕ → Pace → Type 0
+IsSizeAndPace words size pace = (f : List ℕ) × IsNumber f size × (words ≡ paced_words pace f)

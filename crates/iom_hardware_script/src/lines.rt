@@ -5,6 +5,7 @@ ghost use Rattle.iom_hardware_script.specs.Parts.{IsClaimLine, IsSoftwareLine};
 
 use crate::claims::claim_of;
 use crate::help::help_of;
+use crate::loads::load;
 use crate::registers::{register_read, register_write};
 use crate::script::HardwareLine;
 use iom_machine::Event;
@@ -83,6 +84,9 @@ pub fn line_of(alloc: Global, line: &[u8]) -> Result<Option<HardwareLine>, Alloc
     }
     if let Some(help) = help_of(line) {
         return Ok(Some(HardwareLine::Help(help)));
+    }
+    if let Some(said) = load(line) {
+        return Ok(Some(said));
     }
     let Some(event) = event_of(alloc, line)? else {
         return Ok(None);

@@ -3,9 +3,9 @@ ghost use Rattle.std.specs.Bool.{MatchBool};
 ghost use Rattle.iom_script.specs.Faults.{IsTakenAs, IsRefusedAs, ExplainsText};
 ghost use Rattle.iom_hardware_script.specs.Grammar.{IsFrameCount, SayHardware, IsHardwareScript, IsFirstBadHardwareLine};
 
+use crate::first_line::setup_of;
 use crate::lines::line_of;
 use crate::script::{HardwareScript, NumberedLine};
-use crate::setup::setup_of;
 use iom_base::Sequence;
 use iom_script::words::cut;
 use iom_script::{SCRIPT_LIMIT, ScriptFault, is_spoken};
@@ -24,10 +24,10 @@ fn take_line(
     if !is_spoken(line) {
         return Ok(true);
     }
-    match script.frames {
+    match script.setup {
         None => match setup_of(line) {
-            Some(frames) => {
-                script.frames = Some(frames);
+            Some(setup) => {
+                script.setup = Some(setup);
                 Ok(true)
             }
             None => Ok(false),
@@ -48,7 +48,7 @@ fn read_lines(alloc: Global, bytes: &[u8]) -> Result<HardwareScript, ScriptFault
     ensures fault { IfErr result (ExplainsText SayHardware bytes.now) }
 {
     let mut script = HardwareScript {
-        frames: None,
+        setup: None,
         lines: Sequence::new(alloc),
     };
     let mut rest = &bytes[..SCRIPT_LIMIT.min(bytes.len())];
@@ -78,7 +78,7 @@ pub fn parse(alloc: Global, bytes: &[u8]) -> Result<HardwareScript, ScriptFault>
     ensures fault { IfErr result (ExplainsText SayHardware bytes.now) }
 
     // Its memory has a size that a memory can have.
-    ensures frames { IfOk result (λ script. IfSome script.frames IsFrameCount) }
+    ensures setup { IfOk result (λ script. IfSome script.setup (λ setup. IsFrameCount setup.frames)) }
 
     // Nothing but memory keeps a script from being read, or its first bad line from being named.
     ensures only { (script : HardwareScript) → IsHardwareScript bytes.now script → (result ≡ Ok script) ⊎ (result ≡ Err ScriptFault.Memory) }

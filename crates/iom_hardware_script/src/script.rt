@@ -56,6 +56,23 @@ pub enum Help {
     Quiesce,
 }
 
+/// How many events a walk takes.
+#[derive(Clone, Copy, PartialEq, Eq)]
+pub enum Pace {
+    /// All loads of a walk are made in one event.
+    Whole,
+    /// Each load of a walk is an event of its own.
+    Stepped,
+}
+
+/// The hardware that a script begins with.
+#[derive(Clone, Copy, PartialEq, Eq)]
+pub struct Setup {
+    /// How many frames the memory has, from 64 to 4,096.
+    pub frames: u32,
+    pub pace: Pace,
+}
+
 /// What a line of a script says, behind that of the hardware.
 #[derive(Drop)]
 pub enum HardwareLine {
@@ -69,6 +86,8 @@ pub enum HardwareLine {
     Claim(Claim),
     /// Hardware is asked to act by itself.
     Help(Help),
+    /// The next load of the device's walk is made, where each is an event of its own.
+    Load { device: DeviceId },
 }
 
 /// What a line of a script says, and which line it is.
@@ -82,9 +101,8 @@ pub struct NumberedLine {
 /// What a script says.
 #[derive(Drop)]
 pub struct HardwareScript {
-    /// How many frames the memory has, from 64 to 4,096. None where the script says nothing at all; it then has no
-    /// lines.
-    pub frames: Option<u32>,
+    /// The hardware that the first line says. None where the script says nothing at all; it then has no lines.
+    pub setup: Option<Setup>,
     /// What happens, in order.
     pub lines: Sequence<NumberedLine>,
 }

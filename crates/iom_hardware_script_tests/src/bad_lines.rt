@@ -1,12 +1,12 @@
-use crate::expect::{bad_line, expect, script_of};
-use iom_hardware_script::{parse, setup_of};
+use crate::expect::{bad_line, expect, is_hardware, script_of};
+use iom_hardware_script::{Pace, parse, setup_of};
 use iom_script::ScriptFault;
 
 // A script that says nothing has no hardware and no lines.
 #[test]
 fn an_empty_script_says_nothing(rt: HostRuntime) {
     let script = script_of(&rt, rt.alloc(), b"\n# hardware 64\n");
-    expect(&rt, script.frames.is_none());
+    expect(&rt, script.setup.is_none());
     expect(&rt, script.lines.as_slice().is_empty());
 }
 
@@ -20,7 +20,18 @@ const BAD_FIRST: &[u8] = b"\
     |#\nhardware 064\n\
     |#\nhardware 0x40\n\
     |#\nhardware 64 \n\
-    |#\nhardware 64 stepped\n\
+    |#\nhardware 64 Stepped\n\
+    |#\nhardware 64 stepped \n\
+    |#\nhardware 64  stepped\n\
+    |#\nhardware 64 stepped 1\n\
+    |#\nhardware 64 step\n\
+    |#\nhardware 64 whole\n\
+    |#\nhardware 63 stepped\n\
+    |#\nhardware 4097 stepped\n\
+    |#\nhardware 064 stepped\n\
+    |#\nhardware stepped\n\
+    |#\nhardware stepped 64\n\
+    |#\nhardware 64 stepped\
     |#\nhardware 64 nonleaf\n\
     |#\nhardware 64 1\n\
     |#\nhardware 64\
@@ -33,9 +44,21 @@ fn bad_first_lines_are_named(rt: HostRuntime) {
     for script in BAD_FIRST.split(|byte| *byte == b'|') {
         expect(&rt, bad_line(rt.alloc(), script) == 2);
     }
-    expect(&rt, setup_of(b"hardware 64") == Some(64));
-    expect(&rt, setup_of(b"hardware 4096") == Some(4096));
+}
+
+// The smallest and the largest memory, at each pace.
+#[test]
+fn first_lines_say_hardware(rt: HostRuntime) {
+    let smallest = setup_of(b"hardware 64");
+    expect(&rt, is_hardware(smallest, 64, Pace::Whole));
+    let largest = setup_of(b"hardware 4096");
+    expect(&rt, is_hardware(largest, 4096, Pace::Whole));
+    let smallest = setup_of(b"hardware 64 stepped");
+    expect(&rt, is_hardware(smallest, 64, Pace::Stepped));
+    let largest = setup_of(b"hardware 4096 stepped");
+    expect(&rt, is_hardware(largest, 4096, Pace::Stepped));
     expect(&rt, setup_of(b"hardware 4097").is_none());
+    expect(&rt, setup_of(b"hardware 4097 stepped").is_none());
 }
 
 /// Second lines that aren't in the grammar: those of our driver and of settling, and lines of each
@@ -61,7 +84,15 @@ const BAD_SECOND: &[u8] = b"\
     |step\
     |step 000001 1\
     |status 1\
-    |load 000001\
+    |load\
+    |load \
+    |load 1\
+    |load 0x1\
+    |load 000001 \
+    |load 000001 1\
+    |load  000001\
+    |loads 000001\
+    |Load 000001\
     |auto\
     |auto \
     |auto 0x1\

@@ -1,4 +1,5 @@
-use crate::expect::{expect, script_of};
+use crate::expect::{expect, is_hardware, script_of};
+use iom_hardware_script::Pace;
 
 /// Each line that scripts of drivers under test have had, right ones and such as have a mistake, once.
 const LINES: &[u8] = b"\
@@ -203,6 +204,6 @@ const LINES: &[u8] = b"\
 #[test]
 fn lines_of_scripts_are_in_the_grammar(rt: HostRuntime) {
     let script = script_of(&rt, rt.alloc(), LINES);
-    expect(&rt, script.frames == Some(64));
+    expect(&rt, is_hardware(script.setup, 64, Pace::Whole));
     expect(&rt, script.lines.as_slice().len() == 196);
 }

@@ -1,5 +1,5 @@
 // What a test expects, as a call: a comparison in place is a branch that each later proof would carry.
-use iom_hardware_script::{HardwareScript, parse};
+use iom_hardware_script::{HardwareScript, Pace, Setup, parse};
 use iom_script::ScriptFault;
 use std::alloc::Global;
 use std::process::Abort;
@@ -24,4 +24,9 @@ pub(crate) fn bad_line(alloc: Global, bytes: &[u8]) -> u64 {
         Err(ScriptFault::Line(number)) => number,
         Err(ScriptFault::Memory) => u64::MAX,
     }
+}
+
+/// Whether this hardware was read, and no other.
+pub(crate) fn is_hardware(read: Option<Setup>, frames: u32, pace: Pace) -> bool {
+    read == Some(Setup { frames, pace })
 }

@@ -1,6 +1,6 @@
-use crate::expect::{expect, script_of};
+use crate::expect::{expect, is_hardware, script_of};
 use iom_base::{GrantRights, NewDevice, Sequence};
-use iom_hardware_script::{Claim, HardwareLine, Help};
+use iom_hardware_script::{Claim, HardwareLine, Help, Pace};
 use iom_machine::Event;
 
 /// A script of each kind of line, at the boundaries of what is written.
@@ -48,14 +48,16 @@ const EACH: &[u8] = b"\
     medium 00000b 3\n\
     queue 00000b 256 0x1000 0x2002 0x3004\n\
     step 00000b\n\
-    status 00000b\n";
+    status 00000b\n\
+    load 00000a\n\
+    load ffffff\n";
 
 /// What a line says: the number of the line, its name and its numbers. Bytes are a number too, the first of them the
 /// highest digits, after their count.
 type Told = (u64, &'static str, [u64; 4]);
 
 /// What those lines say, behind that of the hardware.
-static TOLD_OF_EACH: [Told; 40] = [
+static TOLD_OF_EACH: [Told; 42] = [
     (4, "raw", [1, 0, 0, 0]),
     (5, "ats", [10, 0, 0, 0]),
     (6, "blk", [11, 3, 0, 0]),
@@ -96,6 +98,8 @@ static TOLD_OF_EACH: [Told; 40] = [
     (42, "queue", [11, 256, 0x1000, 0x20023004]),
     (43, "step", [11, 0, 0, 0]),
     (44, "status", [11, 0, 0, 0]),
+    (45, "load", [10, 0, 0, 0]),
+    (46, "load", [0xffffff, 0, 0, 0]),
 ];
 
 /// A name and numbers.
@@ -255,13 +259,14 @@ fn told_of(line: &HardwareLine) -> Named {
         } => ("mmio-write", [*offset, *width, *value, 0]),
         HardwareLine::Claim(claim) => told_of_claim(claim),
         HardwareLine::Help(help) => told_of_help(*help),
+        HardwareLine::Load { device } => of_device("load", *device, 0),
     }
 }
 
 #[test]
 fn each_kind_of_line_says_its_own(rt: HostRuntime) {
     let script = script_of(&rt, rt.alloc(), EACH);
-    expect(&rt, script.frames == Some(4096));
+    expect(&rt, is_hardware(script.setup, 4096, Pace::Whole));
     let lines = script.lines.as_slice();
     expect(&rt, lines.len() == TOLD_OF_EACH.len());
     for (said, reply) in lines.iter().zip(TOLD_OF_EACH.iter()) {
@@ -269,5 +274,18 @@ fn each_kind_of_line_says_its_own(rt: HostRuntime) {
         expect(&rt, said.number == reply.0);
         expect(&rt, name == reply.1);
         expect(&rt, numbers == reply.2);
+    }
+}
+
+// The pace stands on the first line alone, and the lines behind it are the same.
+#[test]
+fn a_script_may_be_stepped(rt: HostRuntime) {
+    let bytes = b"# one load at a time\nhardware 64 stepped\nread 000001 0x3000 4\nload 000001\n";
+    let script = script_of(&rt, rt.alloc(), bytes);
+    expect(&rt, is_hardware(script.setup, 64, Pace::Stepped));
+    let lines = script.lines.as_slice();
+    expect(&rt, lines.len() == 2);
+    for (said, name) in lines.iter().zip(["read", "load"].iter()) {
+        expect(&rt, told_of(&said.line).0 == *name);
     }
 }

@@ -24,6 +24,7 @@ use Rattle.iom_hardware_session.specs.Good.{GoodMeans}
 use Rattle.iom_hardware_session.specs.Laws.{DoneStaysDone, HandedOffStaysFree, HoldsOn}
 use Rattle.iom_hardware_session.specs.Runs.{is_wrong_claim}
 use Rattle.iom_hardware_session.specs.Sessions.{is_brought_back}
+use Rattle.iom_hardware_session.specs.Shown.{shown_in}
 use Rattle.iom_hardware_session.specs.Watching.{is_about_same, is_frame_handed_off, without_frame, with_claim, WatchesClaim}
 use Rattle.iom_hardware_session.specs.declared.answer.ClaimAnswer.{ClaimAnswer}
 use Rattle.iom_hardware_session.specs.declared.answer.ClaimAnswer.TheVariants as found
@@ -168,27 +169,27 @@ IsKept claim session claimed = IsWatched claim session.watched.items × HoldsOn 
 
 -- A CLAIM THAT IS DONE is kept from then on
 pub done_is_kept : DoneStaysDone → (number : ℕ) (grant : Grant) (new : Session) (before : Claimed) (watched : List Watched) → IsOpen before.history (claim_from number grant)
-    → GoodMeans (said.Done number) new.hardware.board new.trusted.items before (after_done number before) → new.watched.items ≡ with_claim (good.Done number grant.device grant.frame) watched
+    → GoodMeans (said.Done number) (shown_in new) new.trusted.items before (after_done number before) → new.watched.items ≡ with_claim (good.Done number grant.device grant.frame) watched
     → IsKept (good.Done number grant.device grant.frame) new (after_done number before)
 done_is_kept unchanged number grant new before watched opened means is = (
   watched_as (good.Done number grant.device grant.frame) (with_claim (good.Done number grant.device grant.frame) watched) new.watched.items is
       (is_new (good.Done number grant.device grant.frame) (good.Done number grant.device grant.frame) watched
       (and_from (grant.device == grant.device) (grant.frame == grant.frame) (eq-eqb grant.device grant.device refl) (eq-eqb grant.frame grant.frame refl))),
-  λ calls made at comes. unchanged new before number grant calls made means opened at comes,
+  λ made at comes. unchanged new before number grant made means opened at comes,
 )
 
 -- A FRAME THAT IS HANDED OFF is kept
-pub hand_off_is_kept : HandedOffStaysFree → (frame : ℕ) (new : Session) (before after : Claimed) (watched : List Watched) → GoodMeans (said.HandOff frame) new.hardware.board new.trusted.items before after
+pub hand_off_is_kept : HandedOffStaysFree → (frame : ℕ) (new : Session) (before after : Claimed) (watched : List Watched) → GoodMeans (said.HandOff frame) (shown_in new) new.trusted.items before after
     → new.watched.items ≡ with_claim (good.HandedOff frame) watched → IsKept (good.HandedOff frame) new after
 hand_off_is_kept free frame new before after watched means is = (
   watched_as (good.HandedOff frame) (with_claim (good.HandedOff frame) watched) new.watched.items is
       (is_new (good.HandedOff frame) (good.HandedOff frame) watched (eq-eqb frame frame refl)),
-  λ calls id made at comes. free new before after frame id calls made means at comes,
+  λ id made at comes. free new before after frame id made means at comes,
 )
 
 -- of a claim, by whether the new one is about the same
 beside_done : DoneStaysDone → (claim : GoodClaim) (rows : Rows) (number : ℕ) (grant : Grant) (new : Session) (before : Claimed) (watched : List Watched) → ShowsClaimed rows before
-    → IsOpen before.history (claim_from number grant) → GoodMeans (said.Done number) new.hardware.board new.trusted.items before (after_done number before)
+    → IsOpen before.history (claim_from number grant) → GoodMeans (said.Done number) (shown_in new) new.trusted.items before (after_done number before)
     → new.watched.items ≡ with_claim (good.Done number grant.device grant.frame) watched → IsWatched claim watched → HoldsOn claim new before → IsKept claim new (after_done number before)
 beside_done unchanged claim rows number grant new before watched shows opened means is was holds = by (is_about_same (good.Done number grant.device grant.frame) claim) refl
   where
@@ -204,7 +205,7 @@ beside_done unchanged claim rows number grant new before watched shows opened me
     )
 
 beside_hand_off : HandedOffStaysFree → (claim : GoodClaim) (frame : ℕ) (new : Session) (before : Claimed) (watched : List Watched)
-    → GoodMeans (said.HandOff frame) new.hardware.board new.trusted.items before (after_mark frame true before) → new.watched.items ≡ with_claim (good.HandedOff frame) watched → IsWatched claim watched
+    → GoodMeans (said.HandOff frame) (shown_in new) new.trusted.items before (after_mark frame true before) → new.watched.items ≡ with_claim (good.HandedOff frame) watched → IsWatched claim watched
     → HoldsOn claim new before → IsKept claim new (after_mark frame true before)
 beside_hand_off free claim frame new before watched means is was holds = by (is_about_same (good.HandedOff frame) claim) refl
   where
@@ -221,7 +222,7 @@ beside_hand_off free claim frame new before watched means is was holds = by (is_
 
 -- ANY CLAIM, where it isn't wrong, leaves what was good
 pub claim_keeps : DoneStaysDone → HandedOffStaysFree → (own : Said) (answer : ClaimAnswer) (claim : GoodClaim) (hardware : Board) (rows : Rows) (new : Session) (before : Claimed) (watched : List Watched)
-    → ShowsClaimed rows before → ClaimIsAdmitted own answer hardware before → (answer ≡ found.Good → GoodMeans own new.hardware.board new.trusted.items before (claimed_after own answer before))
+    → ShowsClaimed rows before → ClaimIsAdmitted own answer hardware before → (answer ≡ found.Good → GoodMeans own (shown_in new) new.trusted.items before (claimed_after own answer before))
     → WatchesClaim own answer before watched new.watched.items → is_wrong_claim (Some answer) ≡ false → IsNotEnded claim own answer → IsWatched claim watched → HoldsOn claim new before
     → IsKept claim new (claimed_after own answer before)
 claim_keeps unchanged free (said.Grant device page frame rights) found.Good claim hardware rows new before watched shows admitted means is fine ends was holds = (

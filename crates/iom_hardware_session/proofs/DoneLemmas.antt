@@ -15,8 +15,9 @@ use Rattle.iom_hardware_script.specs.declared.script.Claim.TheVariants as claim
 use Rattle.iom_hardware_session.specs.Admitted.{CanBeMade, IsOpenClaim, IsJudged, ClaimIsAdmitted}
 use Rattle.iom_hardware_session.specs.declared.answer.ClaimAnswer.{ClaimAnswer}
 use Rattle.iom_hardware_session.specs.declared.answer.ClaimAnswer.TheVariants as found
-use Rattle.iom_hardware_session.specs.Claiming.{is_judgement, claimed_after}
+use Rattle.iom_hardware_session.specs.Claiming.{is_judgement, after_claim, claimed_after}
 use Rattle.iom_hardware_session.specs.Good.{IsCertain, HasClaimedWaysAlone, DoneIsGood}
+use Rattle.iom_hardware_session.specs.Shown.{ShownHardware}
 use Rattle.iom_hardware_session.specs.Wrong.{SomebodyHolds, SomebodyLingers, ReachesBeyond, DoneIsWrong, HandOffIsWrong, WrongMeans, IfWrong}
 use Rattle.iom_ledger.specs.History.{Pair, May}
 use Rattle.iom_reach.specs.Scene.{HardwareScene}
@@ -57,7 +58,7 @@ pub reaches_beyond : (survey : Survey) (scene : HardwareScene) (claimed : Claime
 reaches_beyond survey scene claimed device frame kind invents (reached, never) = (reached_is_way survey scene device frame kind invents reached, never)
 
 -- that a claim is done isn't: what it withdrew is this grant
-pub done_wrong : (hardware : Board) (trusted : List ℕ) (claimed : Claimed) (number : ℕ) (own : Grant) (answer : ClaimAnswer) → is_judgement answer ≡ true
+pub done_wrong : (hardware : ShownHardware) (trusted : List ℕ) (claimed : Claimed) (number : ℕ) (own : Grant) (answer : ClaimAnswer) → is_judgement answer ≡ true
     → IsOpen claimed.history (record { number = number; grant = own }) → IfWrong answer (λ why. DoneIsWrong why hardware trusted (after_done number claimed) own.device own.frame)
     → IfWrong answer (λ why. WrongMeans (claim.Done number) why hardware trusted claimed (claimed_after (claim.Done number) answer claimed))
 done_wrong hardware trusted claimed number own (found.Wrong why) made opened is = (own, opened, is)
@@ -68,7 +69,7 @@ done_wrong hardware trusted claimed number own (found.Refused why) made opened i
 done_wrong hardware trusted claimed number own found.NoSuchClaim made opened is = is
 
 -- that a frame is handed off
-pub hand_off_wrong : (hardware : Board) (trusted : List ℕ) (claimed : Claimed) (number frame : ℕ) (answer : ClaimAnswer) → number ≡ frame → is_judgement answer ≡ true
+pub hand_off_wrong : (hardware : ShownHardware) (trusted : List ℕ) (claimed : Claimed) (number frame : ℕ) (answer : ClaimAnswer) → number ≡ frame → is_judgement answer ≡ true
     → IfWrong answer (λ why. HandOffIsWrong why hardware trusted claimed number)
     → IfWrong answer (λ why. WrongMeans (claim.HandOff frame) why hardware trusted claimed (claimed_after (claim.HandOff frame) answer claimed))
 hand_off_wrong hardware trusted claimed number frame (found.Wrong why) same made is = subst (λ (f : ℕ). HandOffIsWrong why hardware trusted claimed f) same is
@@ -105,3 +106,12 @@ not_given rows claimed number shows above (grant, opened) =
 pub not_found : (claimed : Claimed) (number : ℕ) (result : Option Grant) → result ≡ None
     → ((grant : Grant) → (result ≡ Some grant) ↔ IsOpen claimed.history (record { number = number; grant = grant })) → ¬ IsOpenClaim claimed number
 not_found claimed number result none found (grant, opened) = let some = (found grant).1 opened in cc
+
+-- a claim that is judged is made
+pub claimed_if_judged : (said : Said) (answer : ClaimAnswer) (before : Claimed) → is_judgement answer ≡ true → claimed_after said answer before ≡ after_claim said before
+claimed_if_judged said found.Good before judges = refl
+claimed_if_judged said (found.Wrong why) before judges = refl
+claimed_if_judged said (found.Released number) before judges = absurd (false≢true judges)
+claimed_if_judged said found.Trusted before judges = absurd (false≢true judges)
+claimed_if_judged said (found.Refused why) before judges = absurd (false≢true judges)
+claimed_if_judged said found.NoSuchClaim before judges = absurd (false≢true judges)

@@ -1,5 +1,5 @@
 -- What comes of a line of devices or hardware is a call of hardware, or nothing.
-use Rattle.std.proofs.Common.{◌≡◌, ◌⊎◌, inl, inr, ℕ, ◌&&◌, true, false, List, Option, None, Some, option_map, Result, Ok, Err, refl, sym, ◌∙◌}
+use Rattle.std.proofs.Common.{◌≡◌, ◌⊎◌, inl, inr, ℕ, ◌&&◌, Bool, true, false, List, Option, None, Some, option_map, Result, Ok, Err, refl, sym, ap, ◌∙◌}
 use Rattle.std.proofs.lemmas.Bool.{false≢true, and_from}
 use Rattle.iom_base.specs.declared.access.AccessKind.{AccessKind}
 use Rattle.iom_base.specs.declared.access.AccessKind.TheVariants as kind
@@ -13,9 +13,17 @@ use Rattle.iom_hardware_ways.specs.Calls as call
 use Rattle.iom_hardware_script.specs.declared.script.HardwareLine.TheVariants as line
 use Rattle.iom_hardware.specs.declared.steps.Stepped.{Stepped}
 use Rattle.iom_block_ways.proofs.WholeLemmas.{harmless, step_calls, queue_calls}
-use Rattle.iom_block_ways.specs.Calls.{UnchangedOrCalls}
-use Rattle.iom_hardware_session.specs.Answered.{reply_in, cache_reply_in, sending_in, fetch_in, timeout_in, delivery_in, drop_in, repeat_in, commit_in, reset_in, load_in, queue_in, step_in, status_in}
-use Rattle.iom_hardware_session.specs.Events.{CallOrNothing, Unchanged, LoadsAsAnswered, StepsAsAnswered, SetsQueueAsAnswered, TellsAsAnswered, EventOrNone}
+use Rattle.iom_block_ways.specs.Calls.{UnchangedOrCalls, AreAllThere}
+use Rattle.iom_iommu.specs.declared.begun.Load.{Load}
+use Rattle.iom_stepped_ways.specs.Calls as stepped
+use Rattle.iom_walks.specs.Walks.{WalkRow}
+use Rattle.iom_hardware_script.specs.Grammar.{is_of_hardware}
+use Rattle.iom_hardware_session.specs.Answered.{reply_in, cache_reply_in, sending_in, fetch_in, timeout_in, delivery_in, drop_in, repeat_in, commit_in, reset_in, load_in, queue_in, step_in, status_in, walk_load_in}
+use Rattle.iom_hardware_session.proofs.SteppedEventLemmas.{effect_beside}
+use Rattle.iom_hardware_session.proofs.SteppedTurnLemmas.{DoesByCall}
+use Rattle.iom_hardware_session.specs.Events.{CallOrNothing, EventEffect, Unchanged, LoadsAsAnswered, StepsAsAnswered, SetsQueueAsAnswered, TellsAsAnswered}
+use Rattle.iom_hardware_session.specs.EventsBeside.{CallBeside}
+use Rattle.iom_hardware_session.specs.Paces.{EventBy, EventOrNone, LoadsBy}
 use Rattle.iom_hardware_session.specs.Shown.{ShownHardware}
 use Rattle.iom_hardware_session.specs.Lines.{is_write, is_made_write, is_of_software}
 use Rattle.iom_hardware_session.specs.declared.answer.Answer.{Answer}
@@ -78,39 +86,83 @@ commits : (trusted : List ℕ) (old new : ShownHardware) (id : ℕ) (answer : Op
 commits trusted old new id None none effect = absurd effect
 commits trusted old new id (Some answer) none effect = inr (call.Commit id answer, effect.0, harmless_commit trusted old.board id answer none)
 
--- AN EVENT that isn't of software stays, or is a call of hardware
-pub event_effect : (trusted : List ℕ) (old new : ShownHardware) (said : Event) (answer : Answer) → is_of_software (line.Event said) answer trusted ≡ false → EventOrNone said answer old new
+-- AN EVENT that isn't of software stays, or is a call of hardware, where a walk is one event
+whole_effect : (trusted : List ℕ) (old new : ShownHardware) (said : Event) (answer : Answer) → is_of_software (line.Event said) answer trusted ≡ false → EventEffect said answer old new
     → UnchangedOrEffect trusted old new
-event_effect trusted old new (event.Plug device what) answer soft effect = absurd (false≢true (sym soft))
-event_effect trusted old new (event.Poke address bytes) answer soft effect = absurd (false≢true (sym soft))
-event_effect trusted old new (event.Peek address len) answer soft effect = inl (loads_nothing old new address len (load_in answer) (effect.0 refl)).0
-event_effect trusted old new (event.Read device address len) answer soft effect = by_call trusted old new (call.Request Own device (read_of address len)) (reply_in answer) (λ x is. tt) (effect.0 refl)
-event_effect trusted old new (event.Write device address bytes) answer soft effect = by_call trusted old new (call.Request Own device (write_of address bytes)) (reply_in answer) (λ x is. tt) (effect.0 refl)
-event_effect trusted old new (event.ReadTranslated device address len) answer soft effect = by_call trusted old new (call.Translated device (read_of address len)) (reply_in answer) (λ x is. tt) (effect.0 refl)
-event_effect trusted old new (event.WriteTranslated device address bytes) answer soft effect = by_call trusted old new (call.Translated device (write_of address bytes)) (reply_in answer) (λ x is. tt) (effect.0 refl)
-event_effect trusted old new (event.ReadThroughCache device address len) answer soft effect = by_call trusted old new (call.ThroughCache Own device (read_of address len)) (cache_reply_in answer) (λ x is. tt) (effect.0 refl)
-event_effect trusted old new (event.WriteThroughCache device address bytes) answer soft effect = by_call trusted old new (call.ThroughCache Own device (write_of address bytes)) (cache_reply_in answer) (λ x is. tt) (effect.0 refl)
-event_effect trusted old new (event.Ask device page) answer soft effect = by_call trusted old new (call.Ask device page) (sending_in answer) (λ x is. tt) (effect.0 refl)
-event_effect trusted old new (event.Forge device serial) answer soft effect = by_call trusted old new (call.Forge device serial) (sending_in answer) (λ x is. tt) (effect.0 refl)
-event_effect trusted old new event.Fetch answer soft effect = by_call trusted old new call.Fetch (fetch_in answer) (λ x is. tt) (effect.0 refl)
-event_effect trusted old new event.Timeout answer soft effect = by_call trusted old new call.Timeout (timeout_in answer) (λ x is. tt) (effect.0 refl)
-event_effect trusted old new (event.Deliver place) answer soft effect = by_call trusted old new (call.Deliver place) (delivery_in answer) (λ x is. tt) (effect.0 refl)
-event_effect trusted old new (event.Drop place) answer soft effect = by_call trusted old new (call.Drop place) (drop_in answer) (λ x is. tt) (effect.0 refl)
-event_effect trusted old new (event.Repeat place) answer soft effect = by_call trusted old new (call.Repeat place) (repeat_in answer) (λ x is. tt) (effect.0 refl)
-event_effect trusted old new (event.Reset device) answer soft effect = by_call trusted old new (call.Reset device) (reset_in answer) (λ x is. tt) (effect.0 refl)
-event_effect trusted old new (event.Commit device) answer soft effect = commits trusted old new device (commit_in answer) soft (effect.0 refl)
-event_effect trusted old new (event.Medium device disk) answer soft effect = absurd (false≢true (sym soft))
-event_effect trusted old new (event.Queue device size descriptors available used) answer soft effect =
-    sets trusted old new device (layout_of size descriptors available used) (queue_in answer) (effect.0 refl)
-event_effect trusted old new (event.Step device) answer soft effect = steps trusted old new device (step_in answer) (effect.0 refl)
-event_effect trusted old new (event.Status device) answer soft effect = inl (tells_nothing old new device (status_in answer) (effect.0 refl)).0
-event_effect trusted old new (event.Attach device mode ats) answer soft effect = inl (effect.1 refl).1.0
-event_effect trusted old new (event.Detach device) answer soft effect = inl (effect.1 refl).1.0
-event_effect trusted old new (event.Grant device page frame rights) answer soft effect = inl (effect.1 refl).1.0
-event_effect trusted old new (event.Release device page) answer soft effect = inl (effect.1 refl).1.0
-event_effect trusted old new (event.Quarantine device) answer soft effect = inl (effect.1 refl).1.0
-event_effect trusted old new (event.Revive device) answer soft effect = inl (effect.1 refl).1.0
-event_effect trusted old new event.Restart answer soft effect = inl (effect.1 refl).1.0
-event_effect trusted old new event.Poll answer soft effect = inl (effect.1 refl).1.0
-event_effect trusted old new event.Faults answer soft effect = inl (effect.1 refl).1.0
-event_effect trusted old new (event.Free frame) answer soft effect = inl (effect.1 refl).1.0
+whole_effect trusted old new (event.Plug device what) answer soft effect = absurd (false≢true (sym soft))
+whole_effect trusted old new (event.Poke address bytes) answer soft effect = absurd (false≢true (sym soft))
+whole_effect trusted old new (event.Peek address len) answer soft effect = inl (loads_nothing old new address len (load_in answer) effect).parts
+whole_effect trusted old new (event.Read device address len) answer soft effect = by_call trusted old new (call.Request Own device (read_of address len)) (reply_in answer) (λ x is. tt) effect
+whole_effect trusted old new (event.Write device address bytes) answer soft effect = by_call trusted old new (call.Request Own device (write_of address bytes)) (reply_in answer) (λ x is. tt) effect
+whole_effect trusted old new (event.ReadTranslated device address len) answer soft effect = by_call trusted old new (call.Translated device (read_of address len)) (reply_in answer) (λ x is. tt) effect
+whole_effect trusted old new (event.WriteTranslated device address bytes) answer soft effect = by_call trusted old new (call.Translated device (write_of address bytes)) (reply_in answer) (λ x is. tt) effect
+whole_effect trusted old new (event.ReadThroughCache device address len) answer soft effect = by_call trusted old new (call.ThroughCache Own device (read_of address len)) (cache_reply_in answer) (λ x is. tt) effect
+whole_effect trusted old new (event.WriteThroughCache device address bytes) answer soft effect = by_call trusted old new (call.ThroughCache Own device (write_of address bytes)) (cache_reply_in answer) (λ x is. tt) effect
+whole_effect trusted old new (event.Ask device page) answer soft effect = by_call trusted old new (call.Ask device page) (sending_in answer) (λ x is. tt) effect
+whole_effect trusted old new (event.Forge device serial) answer soft effect = by_call trusted old new (call.Forge device serial) (sending_in answer) (λ x is. tt) effect
+whole_effect trusted old new event.Fetch answer soft effect = by_call trusted old new call.Fetch (fetch_in answer) (λ x is. tt) effect
+whole_effect trusted old new event.Timeout answer soft effect = by_call trusted old new call.Timeout (timeout_in answer) (λ x is. tt) effect
+whole_effect trusted old new (event.Deliver place) answer soft effect = by_call trusted old new (call.Deliver place) (delivery_in answer) (λ x is. tt) effect
+whole_effect trusted old new (event.Drop place) answer soft effect = by_call trusted old new (call.Drop place) (drop_in answer) (λ x is. tt) effect
+whole_effect trusted old new (event.Repeat place) answer soft effect = by_call trusted old new (call.Repeat place) (repeat_in answer) (λ x is. tt) effect
+whole_effect trusted old new (event.Reset device) answer soft effect = by_call trusted old new (call.Reset device) (reset_in answer) (λ x is. tt) effect
+whole_effect trusted old new (event.Commit device) answer soft effect = commits trusted old new device (commit_in answer) soft effect
+whole_effect trusted old new (event.Medium device disk) answer soft effect = absurd (false≢true (sym soft))
+whole_effect trusted old new (event.Queue device size descriptors available used) answer soft effect =
+    sets trusted old new device (layout_of size descriptors available used) (queue_in answer) effect
+whole_effect trusted old new (event.Step device) answer soft effect = steps trusted old new device (step_in answer) effect
+whole_effect trusted old new (event.Status device) answer soft effect = inl (tells_nothing old new device (status_in answer) effect).parts
+whole_effect trusted old new (event.Attach device mode ats) answer soft effect = absurd effect
+whole_effect trusted old new (event.Detach device) answer soft effect = absurd effect
+whole_effect trusted old new (event.Grant device page frame rights) answer soft effect = absurd effect
+whole_effect trusted old new (event.Release device page) answer soft effect = absurd effect
+whole_effect trusted old new (event.Quarantine device) answer soft effect = absurd effect
+whole_effect trusted old new (event.Revive device) answer soft effect = absurd effect
+whole_effect trusted old new event.Restart answer soft effect = absurd effect
+whole_effect trusted old new event.Poll answer soft effect = absurd effect
+whole_effect trusted old new event.Faults answer soft effect = absurd effect
+whole_effect trusted old new (event.Free frame) answer soft effect = absurd effect
+
+-- the board and what is under way stay, or hardware does something by a call, in either pace
+abbrev pub UnchangedOrDoes : List ℕ → ShownHardware → ShownHardware → Type 0
+UnchangedOrDoes trusted old new =
+    ((board_parts new.board ≡ board_parts old.board) × (new.walks ≡ old.walks))
+    ⊎ DoesByCall (is_id_among trusted) (board_parts old.board) old.walks (board_parts new.board) new.walks
+
+-- what lines leave that change nothing
+pub unchanged : (trusted : List ℕ) (old new : ShownHardware) → Unchanged old new → UnchangedOrDoes trusted old new
+unchanged trusted old new same = inl (same.parts, same.walks)
+
+module _ (trusted : List ℕ) (old new : ShownHardware) where
+  by_pace : (walks : Option (List WalkRow)) (said : Event) (answer : Answer) → is_of_software (line.Event said) answer trusted ≡ false → AreAllThere (board_parts old.board) old.inside
+      → EventBy walks said answer old new
+      → ((board_parts new.board ≡ board_parts old.board) × (new.walks ≡ walks)) ⊎ DoesByCall (is_id_among trusted) (board_parts old.board) walks (board_parts new.board) new.walks
+  by_pace None said answer soft all (effect, same) = elim (whole_effect trusted old new said answer soft effect) [ inl is ↦ inl (is, same) | inr does ↦ inr (same, does) ]
+  by_pace (Some rows) said answer soft all (new_rows, same, effect) = elim (effect_beside trusted old new rows new_rows said answer soft all effect) [
+    | inl is ↦ inl (is.0, same ∙ ap (λ (r : List WalkRow). Some r) is.1)
+    | inr does ↦ inr (new_rows, same, does)
+  ]
+
+  -- so of any event
+  pub event_effect : (said : Event) (answer : Answer) → is_of_software (line.Event said) answer trusted ≡ false → AreAllThere (board_parts old.board) old.inside → EventOrNone said answer old new
+      → UnchangedOrDoes trusted old new
+  event_effect said answer soft all effect = by (is_of_hardware said) refl
+    where
+      by : (b : Bool) → is_of_hardware said ≡ b → UnchangedOrDoes trusted old new
+      by true is = by_pace old.walks said answer soft all (effect.0 is)
+      by false is = unchanged trusted old new (effect.1 is).1
+
+  load_by_pace : (walks : Option (List WalkRow)) (device : ℕ) (answer : Answer) → old.walks ≡ walks → LoadsBy walks device answer old new
+      → ((board_parts new.board ≡ board_parts old.board) × (new.walks ≡ walks)) ⊎ DoesByCall (is_id_among trusted) (board_parts old.board) walks (board_parts new.board) new.walks
+  load_by_pace None device answer is (told, same) = inl (same.parts, same.walks ∙ is)
+  load_by_pace (Some rows) device answer is (new_rows, same, effect) = by (walk_load_in answer) effect
+    where
+      by : (load : Option (Result Load Refusal)) → CallBeside (option_map (stepped.Load device) load) old rows new new_rows
+          → ((board_parts new.board ≡ board_parts old.board) × (new.walks ≡ Some rows))
+          ⊎ DoesByCall (is_id_among trusted) (board_parts old.board) (Some rows) (board_parts new.board) new.walks
+      by None never = absurd never
+      by (Some load) does = inr (new_rows, same, (stepped.Load device load, does.0, tt))
+
+  -- THE NEXT LOAD of a walk is a call, or nothing
+  pub load_effect : (device : ℕ) (answer : Answer) → LoadsBy old.walks device answer old new → UnchangedOrDoes trusted old new
+  load_effect device answer effect = load_by_pace old.walks device answer refl effect

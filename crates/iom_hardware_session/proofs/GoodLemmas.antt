@@ -1,28 +1,76 @@
--- What follows of good claims, by the laws of hardware.
-use Rattle.std.proofs.Common.{ℕ, sym, subst}
+-- What follows of good claims, by the laws of hardware of either pace.
+use Rattle.std.proofs.Common.{ℕ, Bool, List, Option, None, Some, sym, subst}
+use Rattle.iom_base.specs.declared.access.AccessKind.{AccessKind}
+use Rattle.iom_block_devices.specs.Shown.{ShownBlock}
 use Rattle.iom_claims.specs.Claimed.{after_done}
-use Rattle.iom_board.specs.BoardParts.{board_parts}
+use Rattle.iom_board.specs.BoardParts.{BoardParts, board_parts}
+use Rattle.iom_hardware.specs.Inside.{inside}
+use Rattle.iom_hardware_session.specs.Beside.{WalksAreSound}
 use Rattle.iom_hardware_session.specs.Good.{scene_in, HasClaimedWaysAlone}
 use Rattle.iom_hardware_session.specs.declared.watched.GoodClaim.TheVariants as good
-use Rattle.iom_hardware_session.specs.Laws.{DoneStaysDone, HandedOffStaysFree, GoodAgainHolds}
+use Rattle.iom_hardware_session.specs.Laws.{Comes, DoneStaysDone, HandedOffStaysFree, GoodAgainHolds}
 use Rattle.iom_hardware_ways.specs.Laws.{GoodClaimsHold, FreeStaysFree}
+use Rattle.iom_inflight.specs.declared.made.MadeAt.{MadeAt}
+use Rattle.iom_ledger.specs.History.{History, May}
 use Rattle.iom_reach.specs.Laws.{IsOutOfReach}
-use Rattle.iom_way_survey.specs.Surveys.{is_id_among}
+use Rattle.iom_reach.specs.Safe.{IsSafe, AreTimely}
+use Rattle.iom_reach.specs.Ways.{Way}
+use Rattle.iom_stepped_ways.specs.Laws.{MakesAfter, ScenesCover, SteppedFreeStaysFree, SteppedGoodClaimsHold}
+use Rattle.iom_stepped_ways.specs.Scenes.{stepped_scene}
+use Rattle.iom_virtio_blk.specs.MemoryDisks.{disk_state}
+use Rattle.iom_walks.specs.Walks.{WalkRow}
+use Rattle.iom_way_survey.specs.Surveys.{is_id_among, scene_beside}
 
-pub done_stays : GoodClaimsHold → DoneStaysDone
-done_stays holds session before number grant calls made ((safe, timely), each) opened same (events, between, new, turns, makes) =
-    holds (is_id_among session.trusted.items) (after_done number before).history calls events grant.device made (board_parts session.hardware.board) between new safe timely
-    (subst (λ (f : ℕ). HasClaimedWaysAlone (scene_in session) (after_done number before) grant.device f) (sym same) (each grant opened)) turns makes
+-- WHAT COMES where walks take several events comes after its scene
+came_after : ScenesCover → (trusted : ℕ → Bool) (parts : BoardParts) (blocks : List ShownBlock) (rows : List WalkRow) (id : ℕ) (made : MadeAt) → WalksAreSound parts blocks (Some rows)
+    → Comes trusted parts (Some rows) id made → MakesAfter trusted (stepped_scene trusted parts rows) id made
+came_after covers trusted parts blocks rows id made sound (calls, (events, between, between_rows, new, turns, commits)) = record {
+  old = parts;
+  rows = rows;
+  covers = covers trusted parts rows sound.walks sound.kinds;
+  calls = calls;
+  events = events;
+  between = between;
+  between_rows = between_rows;
+  turns = turns;
+  new = new;
+  makes = commits;
+}
 
-pub handed_off_stays : FreeStaysFree → HandedOffStaysFree
-handed_off_stays free session before after frame id calls made ((safe, timely), nobodys, reach, unused) same (events, between, new, turns, makes) =
-    free (is_id_among session.trusted.items) calls events id made (board_parts session.hardware.board) between new safe timely
-    (subst (λ (f : ℕ). IsOutOfReach (scene_in session) f) (sym same) reach) turns makes
+module _ (holds : GoodClaimsHold) (stepped_holds : SteppedGoodClaimsHold) (free : FreeStaysFree) (stepped_free : SteppedFreeStaysFree) (covers : ScenesCover) where
+  -- what is claimed allows what comes, where it allows each way
+  allowed : (trusted : ℕ → Bool) (claimed : History) (parts : BoardParts) (blocks : List ShownBlock) (walks : Option (List WalkRow)) (id : ℕ) (made : MadeAt) → WalksAreSound parts blocks walks
+      → IsSafe (scene_beside trusted parts walks) → AreTimely (scene_beside trusted parts walks)
+      → ((kind : AccessKind) → Way (scene_beside trusted parts walks) id made.frame kind → May claimed id made.frame kind) → Comes trusted parts walks id made → May claimed id made.frame made.kind
+  allowed trusted claimed parts blocks None id made sound safe timely ways (calls, (events, between, new, turns, makes)) =
+      holds trusted claimed calls events id made parts between new safe timely ways turns makes
+  allowed trusted claimed parts blocks (Some rows) id made sound safe timely ways comes =
+      stepped_holds trusted claimed (stepped_scene trusted parts rows) id made safe timely ways (came_after covers trusted parts blocks rows id made sound comes)
 
-pub good_again_holds : GoodClaimsHold → FreeStaysFree → GoodAgainHolds
-good_again_holds holds free session claimed (good.Done number device frame) ((safe, timely), alone) = λ calls made same (events, between, new, turns, makes).
-    holds (is_id_among session.trusted.items) claimed.history calls events device made (board_parts session.hardware.board) between new safe timely
-    (subst (λ (f : ℕ). HasClaimedWaysAlone (scene_in session) claimed device f) (sym same) alone) turns makes
-good_again_holds holds free session claimed (good.HandedOff frame) ((safe, timely), (reach, unused)) = λ calls id made same (events, between, new, turns, makes).
-    free (is_id_among session.trusted.items) calls events id made (board_parts session.hardware.board) between new safe timely
-    (subst (λ (f : ℕ). IsOutOfReach (scene_in session) f) (sym same) reach) turns makes
+  -- and nothing comes where there is no way
+  untouched : (trusted : ℕ → Bool) (parts : BoardParts) (blocks : List ShownBlock) (walks : Option (List WalkRow)) (id : ℕ) (made : MadeAt) → WalksAreSound parts blocks walks
+      → IsSafe (scene_beside trusted parts walks) → AreTimely (scene_beside trusted parts walks) → IsOutOfReach (scene_beside trusted parts walks) made.frame → ¬ Comes trusted parts walks id made
+  untouched trusted parts blocks None id made sound safe timely reach (calls, (events, between, new, turns, makes)) =
+      free trusted calls events id made parts between new safe timely reach turns makes
+  untouched trusted parts blocks (Some rows) id made sound safe timely reach comes =
+      stepped_free trusted (stepped_scene trusted parts rows) id made safe timely reach (came_after covers trusted parts blocks rows id made sound comes)
+
+  pub done_stays : DoneStaysDone
+  done_stays session before number grant made ((safe, timely), each) opened same comes =
+      allowed (is_id_among session.trusted.items) (after_done number before).history (board_parts session.hardware.board) (inside disk_state session.hardware).blocks session.walks grant.device made
+      session.beside safe timely
+      (subst (λ (f : ℕ). HasClaimedWaysAlone (scene_in session) (after_done number before) grant.device f) (sym same) (each grant opened)) comes
+
+  pub handed_off_stays : HandedOffStaysFree
+  handed_off_stays session before after frame id made ((safe, timely), nobodys, reach, unused) same comes =
+      untouched (is_id_among session.trusted.items) (board_parts session.hardware.board) (inside disk_state session.hardware).blocks session.walks id made session.beside safe timely
+      (subst (λ (f : ℕ). IsOutOfReach (scene_in session) f) (sym same) reach) comes
+
+  pub good_again_holds : GoodAgainHolds
+  good_again_holds session claimed (good.Done number device frame) ((safe, timely), alone) = λ made same comes.
+      allowed (is_id_among session.trusted.items) claimed.history (board_parts session.hardware.board) (inside disk_state session.hardware).blocks session.walks device made
+      session.beside safe timely
+      (subst (λ (f : ℕ). HasClaimedWaysAlone (scene_in session) claimed device f) (sym same) alone) comes
+  good_again_holds session claimed (good.HandedOff frame) ((safe, timely), (reach, unused)) = λ id made same comes.
+      untouched (is_id_among session.trusted.items) (board_parts session.hardware.board) (inside disk_state session.hardware).blocks session.walks id made session.beside safe timely
+      (subst (λ (f : ℕ). IsOutOfReach (scene_in session) f) (sym same) reach) comes

@@ -8,10 +8,12 @@ use Rattle.iom_base.specs.declared.access.AccessKind.{AccessKind}
 use Rattle.iom_claims.proofs.ListLemmas.{contains_filter, any_from_passing}
 use Rattle.iom_claims.specs.Claimed.{Claimed}
 use Rattle.iom_board.specs.BoardParts.{BoardParts, board_parts}
-use Rattle.iom_hardware_session.proofs.EventLemmas.{EffectByCall}
-use Rattle.iom_hardware_session.proofs.TurnLemmas.{AreFewer, comes_before, comes_fewer}
-use Rattle.iom_hardware_session.specs.Laws.{ComesFromParts, ComesToMake, HoldsOn, GoodAgainHolds}
+use Rattle.iom_hardware_session.proofs.InvariantLemmas.{invariant_by}
+use Rattle.iom_hardware_session.proofs.SteppedTurnLemmas.{DoesByCall, came_before, fewer_come}
+use Rattle.iom_hardware_session.proofs.TurnLemmas.{AreFewer}
+use Rattle.iom_hardware_session.specs.Laws.{Comes, ComesToMake, HoldsOn, GoodAgainHolds}
 use Rattle.iom_hardware_session.specs.Runs.{has_fallen}
+use Rattle.iom_hardware_session.specs.Shown.{shown_in}
 use Rattle.iom_hardware_session.specs.Watching.{is_about_same, still_good, claims_of, IsVerdictOf, AreJudgedAgain}
 use Rattle.iom_hardware_session.specs.declared.answer.Wrong.{Wrong}
 use Rattle.iom_hardware_session.specs.declared.state.Session.{Session}
@@ -19,9 +21,9 @@ use Rattle.iom_hardware_session.specs.declared.watched.GoodClaim.{GoodClaim}
 use Rattle.iom_hardware_session.specs.declared.watched.GoodClaim.TheVariants as good
 use Rattle.iom_hardware_session.specs.declared.watched.Watched.{Watched}
 use Rattle.iom_hardware_ways.proofs.ListLemmas.{get_contains}
-use Rattle.iom_hardware_ways.specs.Calls.{HardwareCall}
 use Rattle.iom_inflight.specs.declared.made.MadeAt.{MadeAt}
 use Rattle.iom_ledger.specs.History.{May}
+use Rattle.iom_walks.specs.Walks.{WalkRow}
 use Rattle.iom_way_survey.proofs.WayLemmas.{contains_get}
 use Rattle.iom_way_survey.specs.Surveys.{is_id_among}
 
@@ -36,12 +38,12 @@ pub same_holds : (claim own : GoodClaim) (session : Session) (claimed : Claimed)
 same_holds (good.Done number device frame) (good.Done its own on) session claimed same holds =
     let parts = and_parts (device == own) (frame == on) same in
     let devices = eqb-true device own parts.0 in
-    λ calls made at comes.
+    λ made at comes.
     subst (λ (d : ℕ). May claimed.history d made.frame made.kind) (sym devices)
-    (holds calls made (at ∙ eqb-true frame on parts.1) (subst (λ (d : ℕ). ComesToMake session calls d made) devices comes))
+    (holds made (at ∙ eqb-true frame on parts.1) (subst (λ (d : ℕ). ComesToMake session d made) devices comes))
 same_holds (good.Done number device frame) (good.HandedOff on) session claimed same holds = absurd (false≢true same)
 same_holds (good.HandedOff frame) (good.Done its own on) session claimed same holds = absurd (false≢true same)
-same_holds (good.HandedOff frame) (good.HandedOff on) session claimed same holds = λ calls id made at comes. holds calls id made (at ∙ sym (eqb-true on frame same)) comes
+same_holds (good.HandedOff frame) (good.HandedOff on) session claimed same holds = λ id made at comes. holds id made (at ∙ sym (eqb-true on frame same)) comes
 
 -- nothing that is watched has fallen
 none_fallen : (watched : List Watched) (own : Watched) → has_fallen watched ≡ false → Contains watched own → own.why ≡ None
@@ -69,15 +71,15 @@ claim_at (first ∷ others) (head ∷ rest) (suc k) own same at = claim_at other
     tails e = cc
 
 -- where all are judged again, and none has fallen, each holds on
-pub judged_holds : GoodAgainHolds → (claim : GoodClaim) (old new : List Watched) (session : Session) (claimed : Claimed) → AreJudgedAgain old new session.hardware.board session.trusted.items claimed
+pub judged_holds : GoodAgainHolds → (claim : GoodClaim) (old new : List Watched) (session : Session) (claimed : Claimed) → AreJudgedAgain old new (shown_in session) session.trusted.items claimed
     → has_fallen new ≡ false → IsWatched claim old → IsWatched claim new × HoldsOn claim session claimed
 judged_holds holds claim old new session claimed judged none (own, within_old, same, fine) =
     let (k, below, at) = contains_get old own within_old in
     let (other, there, claims) = claim_at old new k own judged.same at in
     let within = get_contains new k other there in
     let why = none_fallen new other none within in
-    let reply : IsVerdictOf None other.claim session.hardware.board session.trusted.items claimed =
-    subst (λ (w : Option Wrong). IsVerdictOf w other.claim session.hardware.board session.trusted.items claimed) why (judged.reply k other there) in
+    let reply : IsVerdictOf None other.claim (shown_in session) session.trusted.items claimed =
+    subst (λ (w : Option Wrong). IsVerdictOf w other.claim (shown_in session) session.trusted.items claimed) why (judged.reply k other there) in
     let about = subst (λ (c : GoodClaim). is_about_same claim c ≡ true) (sym claims) same in
     ((other, within, about, why), same_holds claim other.claim session claimed about (holds session claimed other.claim reply))
 
@@ -88,23 +90,22 @@ still_watched claim watched (own, there, same, fine) =
 
 -- WHAT MAY COME
 
--- whatever comes from the one came sooner, from the other
+-- whatever may come from the one might have come sooner, from the other
 abbrev pub ComesSooner : Session → Session → Type 0
-ComesSooner old new = (calls : List HardwareCall) (id : ℕ) (made : MadeAt) → ComesToMake new calls id made → (sooner : List HardwareCall) × ComesToMake old sooner id made
+ComesSooner old new = (id : ℕ) (made : MadeAt) → ComesToMake new id made → ComesToMake old id made
 
-pub stays_sooner : (old new : Session) → board_parts new.hardware.board ≡ board_parts old.hardware.board → AreFewer (is_id_among old.trusted.items) (is_id_among new.trusted.items) → ComesSooner old new
-stays_sooner old new same fewer = λ calls id made comes. (
-  calls,
-  comes_fewer (is_id_among old.trusted.items) (is_id_among new.trusted.items) (board_parts old.hardware.board) calls id made fewer
-      (subst (λ (parts : BoardParts). ComesFromParts (is_id_among new.trusted.items) parts calls id made) same comes),
-)
+pub stays_sooner : (old new : Session) → board_parts new.hardware.board ≡ board_parts old.hardware.board → new.walks ≡ old.walks
+    → AreFewer (is_id_among old.trusted.items) (is_id_among new.trusted.items) → ComesSooner old new
+stays_sooner old new same walks fewer = λ id made comes.
+    fewer_come (is_id_among old.trusted.items) (is_id_among new.trusted.items) (board_parts old.hardware.board) old.walks id made fewer
+    (subst (λ (w : Option (List WalkRow)). Comes (is_id_among new.trusted.items) (board_parts old.hardware.board) w id made) walks
+    (subst (λ (parts : BoardParts). Comes (is_id_among new.trusted.items) parts new.walks id made) same comes))
 
-pub call_sooner : (old new : Session) → new.trusted.items ≡ old.trusted.items → EffectByCall old.trusted.items old.hardware.board new.hardware.board → ComesSooner old new
-call_sooner old new same (done, effect, harmless) = λ calls id made comes. (
-  done ∷ calls,
-  comes_before (is_id_among old.trusted.items) done calls old.hardware.board.events id made (board_parts old.hardware.board) (board_parts new.hardware.board) old.invariants harmless effect
-      (subst (λ (trusted : List ℕ). ComesFromParts (is_id_among trusted) (board_parts new.hardware.board) calls id made) same comes),
-)
+pub call_sooner : (old new : Session) → new.trusted.items ≡ old.trusted.items
+    → DoesByCall (is_id_among old.trusted.items) (board_parts old.hardware.board) old.walks (board_parts new.hardware.board) new.walks → ComesSooner old new
+call_sooner old new same does = λ id made comes.
+    came_before (is_id_among old.trusted.items) old.hardware.board.events id made (board_parts old.hardware.board) (board_parts new.hardware.board) old.walks new.walks (invariant_by old) does
+    (subst (λ (trusted : List ℕ). Comes (is_id_among trusted) (board_parts new.hardware.board) new.walks id made) same comes)
 
 -- who was trusted is
 pub none_fewer : (old new : List ℕ) → new ≡ old → AreFewer (is_id_among old) (is_id_among new)
@@ -116,10 +117,8 @@ one_more old new device same = λ id among.
     (list_any-append (λ own. own == id) old (device ∷ []) ∙ or_left (is_id_among old id) (list_any (λ own. own == id) (device ∷ [])) among)
 
 pub holds_sooner : (claim : GoodClaim) (old new : Session) (claimed : Claimed) → ComesSooner old new → HoldsOn claim old claimed → HoldsOn claim new claimed
-holds_sooner (good.Done number device frame) old new claimed sooner holds = λ calls made at comes.
-    let (before, came) = sooner calls device made comes in holds before made at came
-holds_sooner (good.HandedOff frame) old new claimed sooner holds = λ calls id made at comes.
-    let (before, came) = sooner calls id made comes in holds before id made at came
+holds_sooner (good.Done number device frame) old new claimed sooner holds = λ made at comes. holds made at (sooner device made comes)
+holds_sooner (good.HandedOff frame) old new claimed sooner holds = λ id made at comes. holds id made at (sooner id made comes)
 
 -- WHAT IS CLAIMED
 
@@ -129,9 +128,9 @@ AllowsStill (good.Done number device frame) before after = (kind : AccessKind) �
 AllowsStill (good.HandedOff frame) before after = ⊤
 
 pub holds_still : (claim : GoodClaim) (session : Session) (before after : Claimed) → AllowsStill claim before after → HoldsOn claim session before → HoldsOn claim session after
-holds_still (good.Done number device frame) session before after still holds = λ calls made at comes.
+holds_still (good.Done number device frame) session before after still holds = λ made at comes.
     subst (λ (f : ℕ). May after.history device f made.kind) (sym at)
-    (still made.kind (subst (λ (f : ℕ). May before.history device f made.kind) at (holds calls made at comes)))
+    (still made.kind (subst (λ (f : ℕ). May before.history device f made.kind) at (holds made at comes)))
 holds_still (good.HandedOff frame) session before after still holds = holds
 
 -- what is claimed stays

@@ -5,8 +5,11 @@ pub mod DoneLemmas
 pub mod WatchLemmas
 pub mod GoodLemmas
 pub mod TurnLemmas
+pub mod SteppedTurnLemmas
+mod LeftLemmas
 pub mod MayLemmas
 pub mod InvariantLemmas
+pub mod SteppedEventLemmas
 pub mod EventLemmas
 pub mod KeepLemmas
 pub mod ClaimLemmas

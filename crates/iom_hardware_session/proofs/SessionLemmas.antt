@@ -12,9 +12,11 @@ use Rattle.iom_hardware_script.specs.declared.script.Claim.TheVariants as said
 use Rattle.iom_hardware_script.specs.declared.script.HardwareLine.{HardwareLine}
 use Rattle.iom_hardware_script.specs.declared.script.HardwareLine.TheVariants as line
 use Rattle.iom_hardware_session.proofs.ClaimLemmas.{IsNotEndedWhere, IsKept, not_ended_where, same_open, claim_keeps, done_is_kept, hand_off_is_kept}
-use Rattle.iom_hardware_session.proofs.EventLemmas.{event_effect}
-use Rattle.iom_hardware_session.proofs.KeepLemmas.{IsWatched, judged_holds, still_watched, stays_sooner, call_sooner, none_fewer, one_more, holds_sooner}
+use Rattle.iom_hardware_session.proofs.EventLemmas.{UnchangedOrDoes, event_effect, load_effect}
+use Rattle.iom_hardware_session.proofs.InvariantLemmas.{all_there, hardware_invariant}
+use Rattle.iom_hardware_session.proofs.KeepLemmas.{ComesSooner, IsWatched, judged_holds, still_watched, stays_sooner, call_sooner, none_fewer, one_more, holds_sooner}
 use Rattle.iom_hardware_session.specs.Answered.{judgement_in}
+use Rattle.iom_hardware_session.specs.Events.{Unchanged}
 use Rattle.iom_hardware_session.specs.Good.{GoodMeans}
 use Rattle.iom_hardware_session.specs.Laws.{DoneStaysDone, HandedOffStaysFree, GoodAgainHolds}
 use Rattle.iom_hardware_session.specs.Shown.{shown_in}
@@ -68,6 +70,7 @@ trusts_more (said.Take frame) answer old new is = none_fewer old new is
 software_claims_nothing : (own : HardwareLine) (answer : Answer) (trusted : List ℕ) (before : Claimed) → is_of_software own answer trusted ≡ true
     → claimed_by own answer before ≡ before
 software_claims_nothing (line.Event event) answer trusted before is = refl
+software_claims_nothing (line.Load device) answer trusted before is = refl
 software_claims_nothing (line.RegisterRead offset width) answer trusted before is = refl
 software_claims_nothing (line.RegisterWrite offset width value) answer trusted before is = refl
 software_claims_nothing (line.Claim own) answer trusted before is = absurd (false≢true is)
@@ -75,45 +78,52 @@ software_claims_nothing (line.Help help) answer trusted before is = refl
 
 -- a claim, where it is judged
 claim_line : DoneStaysDone → HandedOffStaysFree → (own : Said) (answer : Option ClaimAnswer) (claim : GoodClaim) (old new : Session) (before : Claimed) → ShowsClaimed old.claims before
-    → board_parts new.hardware.board ≡ board_parts old.hardware.board → TrustsWhere own answer old.trusted.items new.trusted.items → IsAdmittedWhere own answer old.hardware.board before
-    → IsGoodWhere own answer new.hardware.board new.trusted.items before → WatchesClaimWhere own answer before (still_good old.watched.items) new.watched.items → is_wrong_claim answer ≡ false
+    → board_parts new.hardware.board ≡ board_parts old.hardware.board → new.walks ≡ old.walks → TrustsWhere own answer old.trusted.items new.trusted.items → IsAdmittedWhere own answer old.hardware.board before
+    → IsGoodWhere own answer (shown_in new) new.trusted.items before → WatchesClaimWhere own answer before (still_good old.watched.items) new.watched.items → is_wrong_claim answer ≡ false
     → IsNotEndedWhere claim own answer → IsKept claim old before → IsKept claim new (claimed_where own answer before)
-claim_line unchanged free own None claim old new before shows same trusts admitted means watches fine ends (was, holds) = absurd admitted
-claim_line unchanged free own (Some answer) claim old new before shows same trusts admitted means watches fine ends (was, holds) =
+claim_line unchanged free own None claim old new before shows same walks trusts admitted means watches fine ends (was, holds) = absurd admitted
+claim_line unchanged free own (Some answer) claim old new before shows same walks trusts admitted means watches fine ends (was, holds) =
     claim_keeps unchanged free own answer claim old.hardware.board old.claims new before (still_good old.watched.items) shows admitted means watches fine (not_ended_where claim own answer ends) (still_watched claim old.watched.items was)
-    (holds_sooner claim old new before (stays_sooner old new same (trusts_more own answer old.trusted.items new.trusted.items trusts)) holds)
+    (holds_sooner claim old new before (stays_sooner old new same walks (trusts_more own answer old.trusted.items new.trusted.items trusts)) holds)
 
 not_ended_claim : (claim : GoodClaim) (own : Said) (answer : Answer) → IsNotEndedBy claim (line.Claim own) answer → IsNotEndedWhere claim own (judgement_in answer)
 not_ended_claim (good.Done number device frame) own answer ends = tt
 not_ended_claim (good.HandedOff frame) own answer ends = ends
 
 -- where hardware stays
-stays_line : (claim : GoodClaim) (old new : Session) (before : Claimed) → board_parts new.hardware.board ≡ board_parts old.hardware.board → new.trusted.items ≡ old.trusted.items
+stays_line : (claim : GoodClaim) (old new : Session) (before : Claimed) → Unchanged (shown_in old) (shown_in new) → new.trusted.items ≡ old.trusted.items
     → new.watched.items ≡ still_good old.watched.items → IsKept claim old before → IsKept claim new before
 stays_line claim old new before same trusts watches (was, holds) = (
   subst (λ (w : List Watched). IsWatched claim w) (sym watches) (still_watched claim old.watched.items was),
-  holds_sooner claim old new before (stays_sooner old new same (none_fewer old.trusted.items new.trusted.items trusts)) holds,
+  holds_sooner claim old new before (stays_sooner old new same.parts same.walks (none_fewer old.trusted.items new.trusted.items trusts)) holds,
 )
+
+-- where hardware does something, or nothing
+found_sooner : (old new : Session) → new.trusted.items ≡ old.trusted.items → UnchangedOrDoes old.trusted.items (shown_in old) (shown_in new) → ComesSooner old new
+found_sooner old new trusts (inl (same, walks)) = stays_sooner old new same walks (none_fewer old.trusted.items new.trusted.items trusts)
+found_sooner old new trusts (inr does) = call_sooner old new trusts does
 
 -- a line that isn't of software
 hard_line : DoneStaysDone → HandedOffStaysFree → (own : HardwareLine) (answer : Answer) (claim : GoodClaim) (old new : Session) (before : Claimed) → ShowsClaimed old.claims before
-    → LineEffect own answer (shown_in old) (shown_in new) → TrustsBy own answer old.trusted.items new.trusted.items → IsAdmittedLine own answer old.hardware.board before → IsGoodLine own answer new.hardware.board new.trusted.items before
+    → LineEffect own answer (shown_in old) (shown_in new) → TrustsBy own answer old.trusted.items new.trusted.items → IsAdmittedLine own answer old.hardware.board before → IsGoodLine own answer (shown_in new) new.trusted.items before
     → WatchesStep own answer before (still_good old.watched.items) new.watched.items → is_of_software own answer old.trusted.items ≡ false → is_wrong_claim (judgement_in answer) ≡ false
     → IsNotEndedBy claim own answer → IsKept claim old before → IsKept claim new (claimed_by own answer before)
 hard_line unchanged free (line.Event event) answer claim old new before shows effect trusts admitted means watches soft fine ends (was, holds) = (
   subst (λ (w : List Watched). IsWatched claim w) (sym watches) (still_watched claim old.watched.items was),
-  elim (event_effect old.trusted.items (shown_in old) (shown_in new) event answer soft effect) [
-    | inl same ↦ holds_sooner claim old new before (stays_sooner old new same (none_fewer old.trusted.items new.trusted.items trusts)) holds
-    | inr done ↦ holds_sooner claim old new before (call_sooner old new trusts done) holds
-  ],
+  holds_sooner claim old new before
+      (found_sooner old new trusts (event_effect old.trusted.items (shown_in old) (shown_in new) event answer soft (all_there old.hardware (hardware_invariant old)) effect)) holds,
+)
+hard_line unchanged free (line.Load device) answer claim old new before shows effect trusts admitted means watches soft fine ends (was, holds) = (
+  subst (λ (w : List Watched). IsWatched claim w) (sym watches) (still_watched claim old.watched.items was),
+  holds_sooner claim old new before (found_sooner old new trusts (load_effect old.trusted.items (shown_in old) (shown_in new) device answer effect)) holds,
 )
 hard_line unchanged free (line.RegisterRead offset width) answer claim old new before shows effect trusts admitted means watches soft fine ends kept =
-    stays_line claim old new before effect.1.0 trusts watches kept
+    stays_line claim old new before effect.1 trusts watches kept
 hard_line unchanged free (line.RegisterWrite offset width value) answer claim old new before shows effect trusts admitted means watches soft fine ends kept = absurd (false≢true (sym soft))
 hard_line unchanged free (line.Claim own) answer claim old new before shows effect trusts admitted means watches soft fine ends kept =
-    claim_line unchanged free own (judgement_in answer) claim old new before shows effect.0 trusts admitted means watches fine (not_ended_claim claim own answer ends) kept
+    claim_line unchanged free own (judgement_in answer) claim old new before shows effect.parts effect.walks trusts admitted means watches fine (not_ended_claim claim own answer ends) kept
 hard_line unchanged free (line.Help help) answer claim old new before shows effect trusts admitted means watches soft fine ends kept =
-    stays_line claim old new before effect.1.0 trusts watches kept
+    stays_line claim old new before effect.1 trusts watches kept
 
 -- nothing has fallen, no claim is wrong, and no access a violation
 none_wrong : (reply : LineReply) → is_wrong reply ≡ false → (is_wrong_claim (judgement_in reply.stepped.answer) ≡ false) × (reply.stepped.violated ≡ false) × (has_fallen reply.watched ≡ false)
@@ -156,11 +166,11 @@ accesses_are_claimed old new before after (first ∷ others) (between, goes, res
 
 -- the line at which something is claimed to be done
 begins_done : DoneStaysDone → (own : HardwareLine) (answer : Answer) (number : ℕ) (grant : Grant) (old new : Session) (before : Claimed) → own ≡ line.Claim (said.Done number)
-    → answer ≡ answered.Claim found.Good → ShowsClaimed old.claims before → IsOpen before.history (claim_from number grant) → IsGoodLine own answer new.hardware.board new.trusted.items before
+    → answer ≡ answered.Claim found.Good → ShowsClaimed old.claims before → IsOpen before.history (claim_from number grant) → IsGoodLine own answer (shown_in new) new.trusted.items before
     → WatchesBy own answer before old new → IsKept (good.Done number grant.device grant.frame) new (claimed_by own answer before)
 begins_done unchanged own answer number grant old new before is fine shows opened means watches =
-    let goods : found.Good ≡ found.Good → GoodMeans (said.Done number) new.hardware.board new.trusted.items before (after_done number before) =
-    subst (λ (a : Answer). IsGoodLine (line.Claim (said.Done number)) a new.hardware.board new.trusted.items before) fine (subst (λ (l : HardwareLine). IsGoodLine l answer new.hardware.board new.trusted.items before) is means) in
+    let goods : found.Good ≡ found.Good → GoodMeans (said.Done number) (shown_in new) new.trusted.items before (after_done number before) =
+    subst (λ (a : Answer). IsGoodLine (line.Claim (said.Done number)) a (shown_in new) new.trusted.items before) fine (subst (λ (l : HardwareLine). IsGoodLine l answer (shown_in new) new.trusted.items before) is means) in
     let (own_grant, own_open, watched) = as_done in
     let same = same_open old.claims before number own_grant grant shows own_open opened in
     subst (λ (c : Claimed). IsKept (good.Done number grant.device grant.frame) new c) (sym claims)
@@ -174,25 +184,25 @@ begins_done unchanged own answer number grant old new before is fine shows opene
     claims = ap (λ (l : HardwareLine). claimed_by l answer before) is ∙ ap (λ (a : Answer). claimed_by (line.Claim (said.Done number)) a before) fine
 
 pub done_stays_out : GoodAgainHolds → DoneStaysDone → HandedOffStaysFree → DoneStaysOutOfReach
-done_stays_out again unchanged free old new before after done later number grant calls made shows (between, goes, rest) fine (is, good_answer) opened at comes =
+done_stays_out again unchanged free old new before after done later number grant made shows (between, goes, rest) fine (is, good_answer) opened at comes =
     let fines = or_parts (is_wrong done) (is_any_reply_wrong later) fine in
     let kept = begins_done unchanged done.said done.stepped.answer number grant old between before is good_answer shows opened goes.good goes.again in
-    (all_keep again unchanged free (good.Done number grant.device grant.frame) later between new (claimed_then done before) after goes.claimed rest fines.1 tt kept).1 calls made at comes
+    (all_keep again unchanged free (good.Done number grant.device grant.frame) later between new (claimed_then done before) after goes.claimed rest fines.1 tt kept).1 made at comes
 
 -- the line at which a frame is handed off
 begins_hand_off : HandedOffStaysFree → (own : HardwareLine) (answer : Answer) (frame : ℕ) (old new : Session) (before : Claimed) → own ≡ line.Claim (said.HandOff frame)
-    → answer ≡ answered.Claim found.Good → IsGoodLine own answer new.hardware.board new.trusted.items before → WatchesBy own answer before old new → IsKept (good.HandedOff frame) new (claimed_by own answer before)
+    → answer ≡ answered.Claim found.Good → IsGoodLine own answer (shown_in new) new.trusted.items before → WatchesBy own answer before old new → IsKept (good.HandedOff frame) new (claimed_by own answer before)
 begins_hand_off free own answer frame old new before is fine means watches =
-    let goods : found.Good ≡ found.Good → GoodMeans (said.HandOff frame) new.hardware.board new.trusted.items before (after_mark frame true before) =
-    subst (λ (a : Answer). IsGoodLine (line.Claim (said.HandOff frame)) a new.hardware.board new.trusted.items before) fine (subst (λ (l : HardwareLine). IsGoodLine l answer new.hardware.board new.trusted.items before) is means) in
+    let goods : found.Good ≡ found.Good → GoodMeans (said.HandOff frame) (shown_in new) new.trusted.items before (after_mark frame true before) =
+    subst (λ (a : Answer). IsGoodLine (line.Claim (said.HandOff frame)) a (shown_in new) new.trusted.items before) fine (subst (λ (l : HardwareLine). IsGoodLine l answer (shown_in new) new.trusted.items before) is means) in
     hand_off_is_kept free frame new before (claimed_by own answer before) (still_good old.watched.items) (goods refl)
     (subst (λ (a : Answer). WatchesBy (line.Claim (said.HandOff frame)) a before old new) fine (subst (λ (l : HardwareLine). WatchesBy l answer before old new) is watches))
 
 pub handed_off_stays_untouched : GoodAgainHolds → DoneStaysDone → HandedOffStaysFree → HandedOffStaysUntouched
-handed_off_stays_untouched again unchanged free old new before after handed later frame id calls made shows (between, goes, rest) fine (is, good_answer) ends at comes =
+handed_off_stays_untouched again unchanged free old new before after handed later frame id made shows (between, goes, rest) fine (is, good_answer) ends at comes =
     let fines = or_parts (is_wrong handed) (is_any_reply_wrong later) fine in
     let kept = begins_hand_off free handed.said handed.stepped.answer frame old between before is good_answer goes.good goes.again in
-    (all_keep again unchanged free (good.HandedOff frame) later between new (claimed_then handed before) after goes.claimed rest fines.1 ends kept).1 calls id made at comes
+    (all_keep again unchanged free (good.HandedOff frame) later between new (claimed_then handed before) after goes.claimed rest fines.1 ends kept).1 id made at comes
 
 -- one line more
 pub through_more : (all : List LineReply) (reply : LineReply) (old between new : Session) (before after : Claimed) → GoThrough old before all between after → LineGoesOn between after reply new

@@ -4,12 +4,12 @@ use Rattle.std.proofs.lemmas.Bool.Decides.{eqb_tells}
 use Rattle.std.proofs.lemmas.Option.{slice_get_within}
 use Rattle.iom_claims.specs.Claimed.{Claimed, IsOpen}
 use Rattle.iom_claims.specs.declared.grant.Grant.{Grant}
-use Rattle.iom_board.specs.declared.board.Board.{Board}
 use Rattle.iom_hardware_session.specs.declared.answer.ClaimAnswer.{ClaimAnswer}
 use Rattle.iom_hardware_session.specs.declared.answer.ClaimAnswer.TheVariants as found
 use Rattle.iom_hardware_session.specs.declared.answer.Wrong.{Wrong}
 use Rattle.iom_hardware_session.specs.declared.watched.GoodClaim.TheVariants as good
 use Rattle.iom_hardware_session.specs.declared.watched.Watched.{Watched}
+use Rattle.iom_hardware_session.specs.Shown.{ShownHardware}
 use Rattle.iom_hardware_session.specs.Watching.{claims_of, with_claim, with_if_good, IsVerdictOf, AreJudgedAgain, WatchesDone}
 
 -- where one place is written, what stands there is that, and all else stays
@@ -37,10 +37,10 @@ set_claims (first ∷ others) zero own why at = ap (λ (w : Watched). w.claim �
 set_claims (first ∷ others) (suc place) own why at = ap (λ claims. first.claim ∷ claims) (set_claims others place own why at)
 
 -- those before the place are judged
-abbrev pub AreJudgedBelow : ℕ → List Watched → Board → List ℕ → Claimed → Type 0
+abbrev pub AreJudgedBelow : ℕ → List Watched → ShownHardware → List ℕ → Claimed → Type 0
 AreJudgedBelow place list hardware trusted claimed = (k : ℕ) (own : Watched) → k < place → slice_get list k ≡ Some own → IsVerdictOf own.why own.claim hardware trusted claimed
 
-pub one_more_judged : (list : List Watched) (place : ℕ) (new : Watched) (hardware : Board) (trusted : List ℕ) (claimed : Claimed) → AreJudgedBelow place list hardware trusted claimed
+pub one_more_judged : (list : List Watched) (place : ℕ) (new : Watched) (hardware : ShownHardware) (trusted : List ℕ) (claimed : Claimed) → AreJudgedBelow place list hardware trusted claimed
     → IsVerdictOf new.why new.claim hardware trusted claimed → AreJudgedBelow (place + 1) (slice_set list place new) hardware trusted claimed
 one_more_judged list place new hardware trusted claimed before reply k own less at = elim (set_get list place k new own at) [
   | inl (same, is) ↦ subst (λ (w : Watched). IsVerdictOf w.why w.claim hardware trusted claimed) is reply
@@ -50,7 +50,7 @@ one_more_judged list place new hardware trusted claimed before reply k own less 
     below : (a b : ℕ) → a < b + 1 → (a ≡ b → ⊥) → a < b
     below a b less differ = elim (eqb_tells a b) [ inl is ↦ absurd (differ is.1) | inr ne ↦ omega (arith, less, ne.1) ]
 
-pub all_judged : (old list : List Watched) (place : ℕ) (hardware : Board) (trusted : List ℕ) (claimed : Claimed) → claims_of list ≡ claims_of old → length list < place + 1
+pub all_judged : (old list : List Watched) (place : ℕ) (hardware : ShownHardware) (trusted : List ℕ) (claimed : Claimed) → claims_of list ≡ claims_of old → length list < place + 1
     → AreJudgedBelow place list hardware trusted claimed → AreJudgedAgain old list hardware trusted claimed
 all_judged old list place hardware trusted claimed same long below = record {
   same = same;

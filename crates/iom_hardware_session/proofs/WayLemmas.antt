@@ -1,17 +1,27 @@
 -- What is found of a claim, by what the survey and the rows of claims answer.
 use Rattle.std.proofs.Common.{◌≡◌, ◌==◌, ◌∙◌, ◌⊎◌, inl, inr, ℕ, suc, Bool, true, false, List, [], ◌∷◌, slice_get, Contains, Option, None, Some, option_map, refl, sym, ap, subst, arith}
 use Rattle.std.proofs.lemmas.Bool.Decides.{eqb_tells}
+use Rattle.std.proofs.lemmas.List.Elements.{Contains-append_cases}
 use Rattle.iom_base.specs.declared.access.AccessKind.{AccessKind}
 use Rattle.iom_base.specs.declared.access.AccessKind.TheVariants.{Read, Write}
 use Rattle.iom_device.specs.Caches.{device_with, kind_in}
 use Rattle.iom_device.specs.declared.device.Device.{Device}
 use Rattle.iom_board.specs.BoardParts.{BoardParts}
 use Rattle.iom_board.specs.Invariant.{BoardInvariant, flight_ids, device_ids}
+use Rattle.iom_block_devices.specs.Shown.{ShownBlock}
+use Rattle.iom_hardware_session.specs.Beside.{WalksAreSound}
 use Rattle.iom_hardware_ways.specs.Scenes.{ats_kind, flights_in, scene_of}
 use Rattle.iom_inflight.specs.Flights.{FlightRow, row_of}
 use Rattle.iom_iommu.specs.Parts.{flights_of}
-use Rattle.iom_reach.specs.Scene.{AtsKind, PendingAccess}
+use Rattle.iom_reach.specs.Scene.{AtsKind, PartialWalk, PendingAccess}
 use Rattle.iom_reach.specs.Ways.{Way, Accepted, AnyFrame, ByContext, OnTheWalk}
+use Rattle.iom_stepped_board.specs.Beside.{walk_ids}
+use Rattle.iom_stepped_ways.specs.Scenes.{access_on, added_of, stepped_scene}
+use Rattle.iom_walks.specs.Invariant.{AreWalks}
+use Rattle.iom_walks.specs.Walks.{UnderWay, WalkRow, under_way_of}
+use Rattle.iom_way_survey.proofs.UnderWayLemmas.{lets_through, part_under_way, under_way_plugged}
+use Rattle.iom_way_survey.specs.Surveys.{scene_beside}
+use Rattle.iom_way_survey.specs.Walking.{IsLetThrough}
 
 -- what holds of reads and of writes holds of each kind of access
 pub both_kinds : (P : AccessKind → Type 0) → P Read → P Write → (kind : AccessKind) → P kind
@@ -77,12 +87,46 @@ flying rows devices id access same inside = by (row_of rows id) refl inside
     by (Some row) e there = rowed rows devices id row same e
 
 -- A device that has a way is plugged in
-pub has_place : (trusted : ℕ → Bool) (parts : BoardParts) (events device frame : ℕ) (kind : AccessKind) → BoardInvariant parts events → Way (scene_of trusted parts) device frame kind
+has_place : (trusted : ℕ → Bool) (parts : BoardParts) (events device frame : ℕ) (kind : AccessKind) → BoardInvariant parts events → Way (scene_of trusted parts) device frame kind
     → (k : ℕ) × (own : Device) × (slice_get parts.devices k ≡ Some own) × (own.id ≡ device)
-has_place trusted parts events device frame kind invariants (Accepted inside) = flying (flights_of parts.iommu).rows parts.devices device (record { frame = frame; kind = kind }) invariants.rows inside
+has_place trusted parts events device frame kind invariants (Accepted inside) = flying (flights_of parts.iommu).rows parts.devices device (access_on frame kind) invariants.rows inside
 has_place trusted parts events device frame kind invariants (AnyFrame (own, is) bare) = plugged parts.devices device own is
 has_place trusted parts events device frame kind invariants (ByContext context ((own, is), found) through) = plugged parts.devices device own is
 has_place trusted parts events device frame kind invariants (OnTheWalk space table steps mapping (k, less, at) leads serves) = absurd (omega (arith, less))
+
+-- so is one that has a request under way
+under_way_place : (rows : List WalkRow) (devices : List Device) (id : ℕ) (own : UnderWay) → walk_ids rows ≡ device_ids devices → under_way_of rows id ≡ Some own
+    → (k : ℕ) × (other : Device) × (slice_get devices k ≡ Some other) × (other.id ≡ id)
+under_way_place rows devices id own same is =
+    let (plug, found) = under_way_plugged rows devices id own same is in
+    let (k, at, named) = stands devices id plug found in
+    (k, plug, at, named)
+
+stepped_place : (trusted : ℕ → Bool) (parts : BoardParts) (rows : List WalkRow) (events device frame : ℕ) (kind : AccessKind) → AreWalks rows → walk_ids rows ≡ device_ids parts.devices
+    → BoardInvariant parts events → Way (stepped_scene trusted parts rows) device frame kind → (k : ℕ) × (own : Device) × (slice_get parts.devices k ≡ Some own) × (own.id ≡ device)
+stepped_place trusted parts rows events device frame kind walks same invariants (Accepted inside) =
+    elim (Contains-append_cases (flights_in (row_of (flights_of parts.iommu).rows device)) ((added_of rows).let_through device) (access_on frame kind) inside) [
+      | inl flies ↦ flying (flights_of parts.iommu).rows parts.devices device (access_on frame kind) invariants.rows flies
+      | inr lets ↦ let_of (under_way_of rows device) refl (lets_through rows walks device frame kind lets)
+    ]
+  where
+    let_of : (found : Option UnderWay) → under_way_of rows device ≡ found → IsLetThrough found kind frame → (k : ℕ) × (own : Device) × (slice_get parts.devices k ≡ Some own) × (own.id ≡ device)
+    let_of None is never = absurd never
+    let_of (Some own) is lets = under_way_place rows parts.devices device own same is
+stepped_place trusted parts rows events device frame kind walks same invariants (AnyFrame (own, is) bare) = plugged parts.devices device own is
+stepped_place trusted parts rows events device frame kind walks same invariants (ByContext context ((own, is), found) through) = plugged parts.devices device own is
+stepped_place trusted parts rows events device frame kind walks same invariants (OnTheWalk s table steps_to mapping there leads serves) =
+    let (other, own, is, (request, context, kept_in, at, part, among, (of_other, serving))) = part_under_way rows walks (record { device = Some device; space = s; table = table; steps_to = steps_to }) there in
+    let some : Some device ≡ Some other = ap (λ (w : PartialWalk). w.device) of_other in
+    let named : device ≡ other = cc in
+    under_way_place rows parts.devices device own same (ap (under_way_of rows) named ∙ is)
+
+-- in either pace
+pub place_beside : (trusted : ℕ → Bool) (parts : BoardParts) (blocks : List ShownBlock) (walks : Option (List WalkRow)) (events device frame : ℕ) (kind : AccessKind) → BoardInvariant parts events
+    → WalksAreSound parts blocks walks → Way (scene_beside trusted parts walks) device frame kind → (k : ℕ) × (own : Device) × (slice_get parts.devices k ≡ Some own) × (own.id ≡ device)
+place_beside trusted parts blocks None events device frame kind invariants sound way = has_place trusted parts events device frame kind invariants way
+place_beside trusted parts blocks (Some rows) events device frame kind invariants sound way =
+    stepped_place trusted parts rows events device frame kind sound.walks sound.beside.board.ids invariants way
 
 -- one place has one device
 pub one_there : (devices : List Device) (k place : ℕ) (own other : Device) → k ≡ place → slice_get devices k ≡ Some own → slice_get devices place ≡ Some other → own ≡ other

@@ -7,16 +7,31 @@ use Rattle.iom_board.specs.declared.answers.Delivered.{Delivered}
 use Rattle.iom_board.specs.declared.answers.NoPlace.{NoPlace}
 use Rattle.iom_hardware.specs.declared.steps.Stepped.{Stepped}
 use Rattle.iom_inflight.specs.declared.made.MadeAt.{MadeAt}
+use Rattle.iom_iommu.specs.declared.begun.Begun.{Begun}
+use Rattle.iom_iommu.specs.declared.begun.Load.{Load}
 use Rattle.iom_iommu.specs.declared.fetched.Fetched.{Fetched}
 use Rattle.iom_iommu.specs.declared.reply.Reply.{Reply}
 use Rattle.iom_hardware_session.specs.declared.answer.Answer.{Answer}
 use Rattle.iom_hardware_session.specs.declared.answer.Answer.TheVariants as answered
 use Rattle.iom_hardware_session.specs.declared.answer.ClaimAnswer.{ClaimAnswer}
+use Rattle.iom_stepped_hardware.specs.declared.steps.StepOutcome.{StepOutcome}
 
 -- each is the answer, where it is of that kind
 abbrev pub reply_in : Answer → Option (Result Reply Refusal)
 reply_in (answered.Replied answer) = Some answer
 reply_in answer = None
+
+abbrev pub begun_in : Answer → Option (Result Begun Refusal)
+begun_in (answered.Begun answer) = Some answer
+begun_in answer = None
+
+abbrev pub walk_load_in : Answer → Option (Result Load Refusal)
+walk_load_in (answered.WalkLoad answer) = Some answer
+walk_load_in answer = None
+
+abbrev pub outcome_in : Answer → Option (Result StepOutcome Refusal)
+outcome_in (answered.StepOutcome answer) = Some answer
+outcome_in answer = None
 
 abbrev pub cache_reply_in : Answer → Option (Result CacheReply Refusal)
 cache_reply_in (answered.ThroughCache answer) = Some answer

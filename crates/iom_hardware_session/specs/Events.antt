@@ -1,5 +1,5 @@
--- What a line of devices, hardware or software does to hardware, by its answer.
-use Rattle.std.specs.Prelude.{◌≡◌, ℕ, false, List, slice_get, Option, Some, None, option_map, Result, Ok, Err}
+-- What a line of devices, hardware or software does to hardware, by its answer, where a walk is one event.
+use Rattle.std.specs.Prelude.{◌≡◌, ℕ, List, slice_get, Option, Some, None, option_map, Result, Ok, Err}
 use Rattle.iom_base.specs.Accesses.{read_of, write_of}
 use Rattle.iom_base.specs.DeviceKinds.{disk_of}
 use Rattle.iom_base.specs.declared.refusal.Refusal.{Refusal}
@@ -16,7 +16,6 @@ use Rattle.iom_hardware.specs.Steps.{TakesStep, IsRefusedIfNone}
 use Rattle.iom_hardware.specs.declared.steps.Stepped.{Stepped}
 use Rattle.iom_hardware_ways.specs.Calls.{HardwareCall, CallEffect}
 use Rattle.iom_hardware_ways.specs.Calls as call
-use Rattle.iom_hardware_script.specs.Grammar.{is_of_hardware, IsOfHardware}
 use Rattle.iom_inflight.specs.Flights.{row_of}
 use Rattle.iom_iommu.specs.Parts.{flights_of}
 use Rattle.iom_machine.specs.declared.event.Event.{Event}
@@ -63,9 +62,11 @@ CallOrNothing (Some call) old new =
     CallEffect call (board_parts old.board) (board_parts new.board) × (disks_at_hand new.board ≡ disks_at_hand old.board) × HearsCall call old new
 
 -- all stays
-abbrev pub Unchanged : ShownHardware → ShownHardware → Type 0
-Unchanged old new =
-    (board_parts new.board ≡ board_parts old.board) × (disks_at_hand new.board ≡ disks_at_hand old.board) × BlocksUnchanged old.inside new.inside
+pub record Unchanged (old new : ShownHardware) : Type 0 where
+  pub parts : board_parts new.board ≡ board_parts old.board
+  pub disks : disks_at_hand new.board ≡ disks_at_hand old.board
+  pub blocks : BlocksUnchanged old.inside new.inside
+  pub walks : new.walks ≡ old.walks
 
 -- memory alone changes
 abbrev pub MemoryChanges : ShownHardware → ShownHardware → Type 0
@@ -121,7 +122,7 @@ abbrev pub TellsAsAnswered : Option (Result ℕ Refusal) → ℕ → ShownHardwa
 TellsAsAnswered None device old new = ⊥
 TellsAsAnswered (Some answer) device old new = TellsStatus (block_with old.inside.blocks device) (board_parts old.board) device answer × Unchanged old new
 
--- WHAT AN EVENT DOES TO HARDWARE, by its answer. Events of the model's own driver aren't of hardware
+-- WHAT AN EVENT DOES TO HARDWARE whose walks are one event, by its answer. Events of the model's own driver aren't of hardware
 abbrev pub EventEffect : Event → Answer → ShownHardware → ShownHardware → Type 0
 EventEffect (Plug device what) answer old new = PlugsAsAnswered (plug_in answer) device what old new
 EventEffect (Poke address bytes) answer old new = StoresAsAnswered (store_in answer) address bytes old new
@@ -133,9 +134,9 @@ EventEffect (Step device) answer old new = StepsAsAnswered (step_in answer) devi
 EventEffect (Status device) answer old new = TellsAsAnswered (status_in answer) device old new
 EventEffect event answer old new = CallOrNothing (call_of event answer) old new
 
--- the same of any event: one that is none of hardware is answered so, and does nothing
-abbrev pub EventOrNone : Event → Answer → ShownHardware → ShownHardware → Type 0
-EventOrNone event answer old new = (IsOfHardware event → EventEffect event answer old new) × (is_of_hardware event ≡ false → (answer ≡ answered.NotOfHardware) × Unchanged old new)
+-- an event that is none of hardware is answered so, and does nothing
+abbrev pub IsForeign : Answer → ShownHardware → ShownHardware → Type 0
+IsForeign answer old new = (answer ≡ answered.NotOfHardware) × Unchanged old new
 
 -- the event is a request for an access, at an address that the IOMMU translates
 abbrev pub IsUntranslated : Event → Type 0

@@ -5,25 +5,24 @@ use Rattle.iom_claims.specs.Claimed.{Claimed, IsHeld, IsOpen}
 use Rattle.iom_claims.specs.declared.grant.Grant.{Grant}
 use Rattle.iom_claims.specs.declared.grant.OpenClaim.{OpenClaim}
 use Rattle.iom_board.specs.BoardParts.{board_parts}
-use Rattle.iom_board.specs.declared.board.Board.{Board}
 use Rattle.iom_hardware_script.specs.declared.script.Claim.{Claim as Said}
 use Rattle.iom_hardware_script.specs.declared.script.Claim.TheVariants as claim
 use Rattle.iom_hardware_session.specs.declared.state.Session.{Session}
 use Rattle.iom_hardware_session.specs.Ready.{IsReady}
-use Rattle.iom_hardware_ways.specs.Scenes.{scene_of}
+use Rattle.iom_hardware_session.specs.Shown.{ShownHardware, shown_in}
 use Rattle.iom_ledger.specs.History.{May}
 use Rattle.iom_reach.specs.Laws.{IsOutOfReach}
 use Rattle.iom_reach.specs.Safe.{IsRead, IsSafe, AreTimely, HasWord}
 use Rattle.iom_reach.specs.Scene.{HardwareScene}
 use Rattle.iom_reach.specs.Ways.{Way}
-use Rattle.iom_way_survey.specs.Surveys.{is_id_among}
+use Rattle.iom_way_survey.specs.Surveys.{is_id_among, scene_beside}
 
--- what lies between devices and memory, where these devices are trusted with all memory
-abbrev pub scene_with : Board → List ℕ → HardwareScene
-scene_with hardware trusted = scene_of (is_id_among trusted) (board_parts hardware)
+-- what lies between devices and memory, also by what is under way, where these devices are trusted with all memory
+abbrev pub scene_with : ShownHardware → List ℕ → HardwareScene
+scene_with hardware trusted = scene_beside (is_id_among trusted) (board_parts hardware.board) hardware.walks
 
 abbrev pub scene_in : Session → HardwareScene
-scene_in session = scene_with session.hardware.board session.trusted.items
+scene_in session = scene_with (shown_in session) session.trusted.items
 
 -- Something can be certain: what hardware reads nobody but software writes, and no message is of an epoch to come
 abbrev pub IsCertain : HardwareScene → Type 0
@@ -53,11 +52,11 @@ abbrev pub HandOffIsGood : HardwareScene → Claimed → ℕ → Type 0
 HandOffIsGood scene before frame = IsCertain scene × IsNobodys before frame × IsOutOfReach scene frame × IsUnused scene frame
 
 -- WHAT A GOOD CLAIM MEANS, as hardware stands with these devices trusted, by what was claimed before it and after it
-abbrev pub GoodMeans : Said → Board → List ℕ → Claimed → Claimed → Type 0
+abbrev pub GoodMeans : Said → ShownHardware → List ℕ → Claimed → Claimed → Type 0
 GoodMeans (claim.Done number) hardware trusted before after = DoneIsGood (scene_with hardware trusted) before after number
 GoodMeans (claim.HandOff frame) hardware trusted before after = HandOffIsGood (scene_with hardware trusted) before frame
 GoodMeans (claim.Take frame) hardware trusted before after = IsNobodys before frame
 GoodMeans (claim.Grant device page frame rights) hardware trusted before after = IsUnused (scene_with hardware trusted) frame
-GoodMeans (claim.Ready device page) hardware trusted before after = IsReady hardware before device page
+GoodMeans (claim.Ready device page) hardware trusted before after = IsReady hardware.board before device page
 GoodMeans (claim.Release device page) hardware trusted before after = ⊤
 GoodMeans (claim.Trust device) hardware trusted before after = ⊤

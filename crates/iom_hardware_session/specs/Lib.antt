@@ -1,7 +1,11 @@
+pub mod Beside
+pub mod BesideIsFact
 pub mod Found
 pub mod Shown
 pub mod Answered
 pub mod Events
+pub mod EventsBeside
+pub mod Paces
 pub mod Claiming
 pub mod Admitted
 pub mod Timely

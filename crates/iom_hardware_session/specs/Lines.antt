@@ -20,9 +20,10 @@ use Rattle.iom_hardware_session.specs.declared.state.Session.{Session}
 use Rattle.iom_hardware_session.specs.Admitted.{ClaimIsAdmitted}
 use Rattle.iom_hardware_session.specs.Answered.{commit_in, judgement_in}
 use Rattle.iom_hardware_session.specs.Claiming.{claimed_after}
-use Rattle.iom_hardware_session.specs.Events.{EventOrNone, Unchanged}
+use Rattle.iom_hardware_session.specs.Events.{IsForeign, Unchanged}
 use Rattle.iom_hardware_session.specs.Good.{GoodMeans}
-use Rattle.iom_hardware_session.specs.Shown.{ShownHardware}
+use Rattle.iom_hardware_session.specs.Paces.{EventOrNone, LoadsBy}
+use Rattle.iom_hardware_session.specs.Shown.{ShownHardware, shown_in}
 use Rattle.iom_hardware_session.specs.Watching.{still_good, AreJudgedAgain, WatchesClaim}
 use Rattle.iom_hardware_session.specs.declared.watched.Watched.{Watched}
 use Rattle.iom_hardware_session.specs.Wrong.{WrongMeans, IfWrong}
@@ -38,9 +39,9 @@ use Rattle.iom_way_survey.specs.Surveys.{is_id_among}
 abbrev pub KeepsClaims : Session → Session → Type 0
 KeepsClaims old new = (new.claims ≡ old.claims) × (new.trusted ≡ old.trusted) × (new.watched ≡ old.watched)
 
--- hardware stays, and who is trusted
+-- hardware stays with what is under way, and who is trusted
 abbrev pub KeepsHardware : Session → Session → Type 0
-KeepsHardware old new = (new.hardware ≡ old.hardware) × (new.trusted ≡ old.trusted)
+KeepsHardware old new = (new.hardware ≡ old.hardware) × (new.walks ≡ old.walks) × (new.trusted ≡ old.trusted)
 
 -- all stays but what was last looked at
 abbrev pub KeepsAll : Session → Session → Type 0
@@ -70,7 +71,7 @@ WritesWhere true offset width value old answer new = (answer ≡ answered.Writte
 WritesWhere false offset width value old answer new =
     (answer ≡ answered.Written (done_of (register_at offset (short_width width))))
     × (board_parts new.board ≡ record (board_parts old.board) { iommu = changed_by (after_write old.board.iommu) old.board.iommu value (register_at offset (short_width width)) })
-    × (disks_at_hand new.board ≡ disks_at_hand old.board) × BlocksUnchanged old.inside new.inside
+    × (disks_at_hand new.board ≡ disks_at_hand old.board) × BlocksUnchanged old.inside new.inside × (new.walks ≡ old.walks)
 
 -- THE DRIVER WRITES a register
 abbrev pub WritesRegister : (offset width value : ℕ) → ShownHardware → Answer → ShownHardware → Type 0
@@ -89,10 +90,11 @@ Trusts said answer old new = new ≡ old
 -- WHAT A LINE DOES TO HARDWARE, by its answer
 abbrev pub LineEffect : HardwareLine → Answer → ShownHardware → ShownHardware → Type 0
 LineEffect (line.Event event) answer old new = EventOrNone event answer old new
+LineEffect (line.Load device) answer old new = LoadsBy old.walks device answer old new
 LineEffect (line.RegisterRead offset width) answer old new = ReadsRegister offset width old.board answer × Unchanged old new
 LineEffect (line.RegisterWrite offset width value) answer old new = WritesRegister offset width value old answer new
 LineEffect (line.Claim said) answer old new = Unchanged old new
-LineEffect (line.Help help) answer old new = (answer ≡ answered.NotOfHardware) × Unchanged old new
+LineEffect (line.Help help) answer old new = IsForeign answer old new
 
 -- what is claimed after a claim, where one is judged
 abbrev pub claimed_where : Said → Option ClaimAnswer → Claimed → Claimed
@@ -103,6 +105,7 @@ claimed_where said (Some answer) before = claimed_after said answer before
 abbrev pub claimed_by : HardwareLine → Answer → Claimed → Claimed
 claimed_by (line.Claim said) answer before = claimed_where said (judgement_in answer) before
 claimed_by (line.Event event) answer before = before
+claimed_by (line.Load device) answer before = before
 claimed_by (line.RegisterRead offset width) answer before = before
 claimed_by (line.RegisterWrite offset width value) answer before = before
 claimed_by (line.Help help) answer before = before
@@ -132,20 +135,20 @@ TrustsBy (line.Claim said) answer old new = TrustsWhere said (judgement_in answe
 TrustsBy said answer old new = new ≡ old
 
 -- what a claim that is answered well means
-abbrev pub IsGoodWhere : Said → Option ClaimAnswer → Board → List ℕ → Claimed → Type 0
+abbrev pub IsGoodWhere : Said → Option ClaimAnswer → ShownHardware → List ℕ → Claimed → Type 0
 IsGoodWhere said None hardware trusted before = ⊤
 IsGoodWhere said (Some answer) hardware trusted before = answer ≡ found.Good → GoodMeans said hardware trusted before (claimed_after said answer before)
 
-abbrev pub IsGoodLine : HardwareLine → Answer → Board → List ℕ → Claimed → Type 0
+abbrev pub IsGoodLine : HardwareLine → Answer → ShownHardware → List ℕ → Claimed → Type 0
 IsGoodLine (line.Claim said) answer hardware trusted before = IsGoodWhere said (judgement_in answer) hardware trusted before
 IsGoodLine said answer hardware trusted before = ⊤
 
 -- what a claim that is answered so means, where it isn't true
-abbrev pub IsWrongWhere : Said → Option ClaimAnswer → Board → List ℕ → Claimed → Type 0
+abbrev pub IsWrongWhere : Said → Option ClaimAnswer → ShownHardware → List ℕ → Claimed → Type 0
 IsWrongWhere said None hardware trusted before = ⊤
 IsWrongWhere said (Some answer) hardware trusted before = IfWrong answer (λ why. WrongMeans said why hardware trusted before (claimed_after said answer before))
 
-abbrev pub IsWrongLine : HardwareLine → Answer → Board → List ℕ → Claimed → Type 0
+abbrev pub IsWrongLine : HardwareLine → Answer → ShownHardware → List ℕ → Claimed → Type 0
 IsWrongLine (line.Claim said) answer hardware trusted before = IsWrongWhere said (judgement_in answer) hardware trusted before
 IsWrongLine said answer hardware trusted before = ⊤
 
@@ -183,7 +186,7 @@ WatchesStep said answer before old new = new ≡ old
 
 -- so of any line, by whether it is of software
 abbrev pub WatchesWhere : Bool → HardwareLine → Answer → Claimed → Session → Session → Type 0
-WatchesWhere true said answer before old new = AreJudgedAgain (still_good old.watched.items) new.watched.items new.hardware.board new.trusted.items before
+WatchesWhere true said answer before old new = AreJudgedAgain (still_good old.watched.items) new.watched.items (shown_in new) new.trusted.items before
 WatchesWhere false said answer before old new = WatchesStep said answer before (still_good old.watched.items) new.watched.items
 
 -- WHAT IS WATCHED after a line: what was found wrong at the line before is forgotten, and where software changes hardware all the others are judged again

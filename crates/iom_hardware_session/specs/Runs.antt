@@ -1,17 +1,19 @@
 -- Many lines one after another, and what is told of them.
-use Rattle.std.specs.Prelude.{◌≡◌, ℕ, ◌↔◌, ◌||◌, Bool, true, false, List, [], ◌∷◌, Option, None, Some, IsTrue, is_some}
+use Rattle.std.specs.Prelude.{◌≡◌, ◌↔◌, ◌||◌, Bool, true, false, List, [], ◌∷◌, Option, None, Some, IsTrue, is_some}
 use Rattle.std.specs.List.{list_any}
 use Rattle.iom_claims.specs.Claimed.{Claimed, nothing_claimed}
 use Rattle.iom_claims.specs.Shown.{ShowsClaimed}
 use Rattle.iom_hardware.specs.Inside.{inside}
 use Rattle.iom_hardware.specs.PowerOn.{IsHardwareAtPowerOn}
 use Rattle.iom_hardware_script.specs.declared.script.HardwareLine.{HardwareLine}
+use Rattle.iom_hardware_script.specs.declared.script.Setup.{Setup}
 use Rattle.iom_hardware_session.specs.Answered.{judgement_in}
 use Rattle.iom_hardware_session.specs.declared.answer.ClaimAnswer.{ClaimAnswer}
 use Rattle.iom_hardware_session.specs.declared.answer.ClaimAnswer.TheVariants as found
 use Rattle.iom_hardware_session.specs.declared.session.Stepped.{Stepped}
 use Rattle.iom_hardware_session.specs.declared.state.Session.{Session}
 use Rattle.iom_hardware_session.specs.declared.watched.Watched.{Watched}
+use Rattle.iom_hardware_session.specs.Paces.{walks_at_power_on}
 use Rattle.iom_hardware_session.specs.Shown.{shown_in}
 use Rattle.iom_program_disks.specs.Disks.{program_disks}
 use Rattle.iom_virtio_blk.specs.MemoryDisks.{disk_state}
@@ -33,8 +35,8 @@ pub record LineGoesOn (old : Session) (before : Claimed) (reply : LineReply) (ne
   pub claimed : ShowsClaimed new.claims (claimed_then reply before)
   pub trusted : TrustsBy reply.said reply.stepped.answer old.trusted.items new.trusted.items
   pub admitted : IsAdmittedLine reply.said reply.stepped.answer old.hardware.board before
-  pub good : IsGoodLine reply.said reply.stepped.answer new.hardware.board new.trusted.items before
-  pub wrong : IsWrongLine reply.said reply.stepped.answer new.hardware.board new.trusted.items before
+  pub good : IsGoodLine reply.said reply.stepped.answer (shown_in new) new.trusted.items before
+  pub wrong : IsWrongLine reply.said reply.stepped.answer (shown_in new) new.trusted.items before
   pub again : WatchesBy reply.said reply.stepped.answer before old new
   pub violated : IsTrue reply.stepped.violated ↔ IsViolation before (made_by reply.stepped.answer)
   pub allowed : reply.stepped.violated ≡ false → IsAllowed before (made_by reply.stepped.answer)
@@ -70,9 +72,11 @@ is_wrong reply = is_wrong_by reply.stepped reply.watched
 abbrev pub is_any_reply_wrong : List LineReply → Bool
 is_any_reply_wrong all = list_any is_wrong all
 
--- A SESSION BEGINS: hardware at power-on with so many frames of memory and the disks of the programs at hand, nothing claimed, nobody trusted, nothing watched
-pub record IsSessionAtPowerOn (frames : ℕ) (session : Session) : Type 0 where
-  pub power_on : IsHardwareAtPowerOn frames program_disks session.hardware.board (inside disk_state session.hardware)
+-- A SESSION BEGINS: hardware of this pace at power-on, with so many frames of memory and the disks of the programs at hand, nothing under way, nothing claimed, nobody
+-- trusted, nothing watched
+pub record IsSessionAtPowerOn (setup : Setup) (session : Session) : Type 0 where
+  pub power_on : IsHardwareAtPowerOn setup.frames program_disks session.hardware.board (inside disk_state session.hardware)
+  pub walks : session.walks ≡ walks_at_power_on setup.pace
   pub claims : ShowsClaimed session.claims nothing_claimed
   pub trusted : session.trusted.items ≡ []
   pub watched : session.watched.items ≡ []

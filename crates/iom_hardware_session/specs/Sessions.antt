@@ -18,7 +18,6 @@ use Rattle.iom_hardware_session.specs.Claiming.{is_made}
 use Rattle.iom_hardware_session.specs.Laws.{ComesToMake}
 use Rattle.iom_hardware_session.specs.Lines.{IsAllowed, made_by}
 use Rattle.iom_hardware_session.specs.Runs.{LineReply, claimed_then, GoThrough, is_any_reply_wrong}
-use Rattle.iom_hardware_ways.specs.Calls.{HardwareCall}
 use Rattle.iom_inflight.specs.declared.made.MadeAt.{MadeAt}
 use Rattle.iom_ledger.specs.History.{May}
 
@@ -56,14 +55,14 @@ AccessesAreClaimed = (old new : Session) (before after : Claimed) (all : List Li
 -- AND NONE COULD HAVE BEEN to what was withdrawn and claimed to be done: from then on, whatever hardware and devices do by themselves, at each moment the device
 -- makes no access to the frame but those that what is claimed by then allows
 abbrev pub DoneStaysOutOfReach : Type 0
-DoneStaysOutOfReach = (old new : Session) (before after : Claimed) (done : LineReply) (later : List LineReply) (number : ℕ) (grant : Grant) (calls : List HardwareCall) (made : MadeAt)
+DoneStaysOutOfReach = (old new : Session) (before after : Claimed) (done : LineReply) (later : List LineReply) (number : ℕ) (grant : Grant) (made : MadeAt)
     → ShowsClaimed old.claims before → GoThrough old before (done ∷ later) new after → is_any_reply_wrong (done ∷ later) ≡ false
     → IsGood done (claim.Done number) → IsOpen before.history (record { number = number; grant = grant })
-    → made.frame ≡ grant.frame → ComesToMake new calls grant.device made → May after.history grant.device made.frame made.kind
+    → made.frame ≡ grant.frame → ComesToMake new grant.device made → May after.history grant.device made.frame made.kind
 
 -- NOR TO A FRAME THAT WAS HANDED OFF: until it is taken or granted, no device makes any access there
 abbrev pub HandedOffStaysUntouched : Type 0
-HandedOffStaysUntouched = (old new : Session) (before after : Claimed) (handed : LineReply) (later : List LineReply) (frame id : ℕ) (calls : List HardwareCall) (made : MadeAt)
+HandedOffStaysUntouched = (old new : Session) (before after : Claimed) (handed : LineReply) (later : List LineReply) (frame id : ℕ) (made : MadeAt)
     → ShowsClaimed old.claims before → GoThrough old before (handed ∷ later) new after → is_any_reply_wrong (handed ∷ later) ≡ false
     → IsGood handed (claim.HandOff frame) → comes_back frame later ≡ false
-    → made.frame ≡ frame → ¬ ComesToMake new calls id made
+    → made.frame ≡ frame → ¬ ComesToMake new id made

@@ -2,7 +2,6 @@
 use Rattle.std.specs.Prelude.{◌≡◌, ℕ, ◌==◌, Bool, false, not, ◌&&◌, List, [], ◌∷◌, ◌++◌, map, filter, slice_get, Option, None, Some, is_some, if◌then◌else◌}
 use Rattle.iom_claims.specs.Claimed.{Claimed, IsOpen}
 use Rattle.iom_claims.specs.declared.grant.Grant.{Grant}
-use Rattle.iom_board.specs.declared.board.Board.{Board}
 use Rattle.iom_hardware_script.specs.declared.script.Claim.{Claim as Said}
 use Rattle.iom_hardware_script.specs.declared.script.Claim.TheVariants as claim
 use Rattle.iom_hardware_session.specs.declared.answer.ClaimAnswer.{ClaimAnswer}
@@ -13,6 +12,7 @@ use Rattle.iom_hardware_session.specs.declared.watched.GoodClaim.TheVariants as 
 use Rattle.iom_hardware_session.specs.declared.watched.Watched.{Watched}
 use Rattle.iom_hardware_session.specs.Claiming.{is_made}
 use Rattle.iom_hardware_session.specs.Good.{scene_with, IsCertain, IsUnused, HasClaimedWaysAlone}
+use Rattle.iom_hardware_session.specs.Shown.{ShownHardware}
 use Rattle.iom_hardware_session.specs.Wrong.{DoneIsWrong, HandOffIsWrong}
 use Rattle.iom_reach.specs.Laws.{IsOutOfReach}
 use Rattle.iom_reach.specs.Scene.{HardwareScene}
@@ -47,12 +47,12 @@ IsStillSo (good.Done number device frame) scene claimed = HasClaimedWaysAlone sc
 IsStillSo (good.HandedOff frame) scene claimed = IsOutOfReach scene frame × IsUnused scene frame
 
 -- why it isn't
-abbrev pub IsNoMore : Wrong → GoodClaim → Board → List ℕ → Claimed → Type 0
+abbrev pub IsNoMore : Wrong → GoodClaim → ShownHardware → List ℕ → Claimed → Type 0
 IsNoMore why (good.Done number device frame) hardware trusted claimed = DoneIsWrong why hardware trusted claimed device frame
 IsNoMore why (good.HandedOff frame) hardware trusted claimed = HandOffIsWrong why hardware trusted claimed frame
 
 -- what is told of it is true
-abbrev pub IsVerdictOf : Option Wrong → GoodClaim → Board → List ℕ → Claimed → Type 0
+abbrev pub IsVerdictOf : Option Wrong → GoodClaim → ShownHardware → List ℕ → Claimed → Type 0
 IsVerdictOf None claim hardware trusted claimed = IsCertain (scene_with hardware trusted) × IsStillSo claim (scene_with hardware trusted) claimed
 IsVerdictOf (Some why) claim hardware trusted claimed = IsNoMore why claim hardware trusted claimed
 
@@ -61,7 +61,7 @@ abbrev pub claims_of : List Watched → List GoodClaim
 claims_of watched = map (λ (own : Watched). own.claim) watched
 
 -- ALL WERE JUDGED AGAIN, as hardware stands and by what is claimed
-pub record AreJudgedAgain (old new : List Watched) (hardware : Board) (trusted : List ℕ) (claimed : Claimed) : Type 0 where
+pub record AreJudgedAgain (old new : List Watched) (hardware : ShownHardware) (trusted : List ℕ) (claimed : Claimed) : Type 0 where
   pub same : claims_of new ≡ claims_of old
   pub reply : (k : ℕ) (own : Watched) → slice_get new k ≡ Some own → IsVerdictOf own.why own.claim hardware trusted claimed
 

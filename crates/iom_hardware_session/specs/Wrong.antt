@@ -6,7 +6,6 @@ use Rattle.iom_claims.specs.declared.grant.Grant.{Grant}
 use Rattle.iom_claims.specs.declared.grant.OpenClaim.{OpenClaim}
 use Rattle.iom_fabric.specs.declared.fabric.OnLink.{OnLink}
 use Rattle.iom_board.specs.BoardParts.{BoardParts, board_parts}
-use Rattle.iom_board.specs.declared.board.Board.{Board}
 use Rattle.iom_hardware_script.specs.declared.script.Claim.{Claim as Said}
 use Rattle.iom_hardware_script.specs.declared.script.Claim.TheVariants as claim
 use Rattle.iom_hardware_session.specs.declared.answer.ClaimAnswer.{ClaimAnswer}
@@ -15,6 +14,7 @@ use Rattle.iom_hardware_session.specs.declared.answer.Wrong.{Wrong}
 use Rattle.iom_hardware_session.specs.declared.answer.Wrong.TheVariants as wrong
 use Rattle.iom_hardware_session.specs.Good.{scene_with}
 use Rattle.iom_hardware_session.specs.Ready.{ReadyIsWrong}
+use Rattle.iom_hardware_session.specs.Shown.{ShownHardware}
 use Rattle.iom_hardware_session.specs.Timely.{IsTimelyMessage}
 use Rattle.iom_ledger.specs.History.{May}
 use Rattle.iom_reach.specs.Scene.{HardwareScene}
@@ -25,8 +25,8 @@ abbrev pub IsUntimely : BoardParts → Type 0
 IsUntimely parts = (on : OnLink) × Contains parts.fabric on × ¬ IsTimelyMessage parts on
 
 -- Nothing can be certain: memory is larger than a survey, somebody who isn't software writes what hardware reads, or a message is of an epoch to come
-abbrev pub IsUncertain : Board → List ℕ → Type 0
-IsUncertain hardware trusted = (4096 < length hardware.memory) ⊎ (IsClash (scene_with hardware trusted) ⊎ IsUntimely (board_parts hardware))
+abbrev pub IsUncertain : ShownHardware → List ℕ → Type 0
+IsUncertain hardware trusted = (4096 < length hardware.board.memory) ⊎ (IsClash (scene_with hardware trusted) ⊎ IsUntimely (board_parts hardware.board))
 
 -- hardware reads the frame, or the IOMMU stores a fault record or a fence's word there
 abbrev pub HardwareUses : HardwareScene → ℕ → Type 0
@@ -45,7 +45,7 @@ abbrev pub ReachesBeyond : HardwareScene → Claimed → (device frame : ℕ) �
 ReachesBeyond scene claimed device frame kind = IsReachedAs scene device frame kind × ¬ May claimed.history device frame kind
 
 -- WHY IT ISN'T TRUE that no way of the device to the frame is left
-abbrev pub DoneIsWrong : Wrong → Board → List ℕ → Claimed → (device frame : ℕ) → Type 0
+abbrev pub DoneIsWrong : Wrong → ShownHardware → List ℕ → Claimed → (device frame : ℕ) → Type 0
 DoneIsWrong (wrong.Reached own kind) hardware trusted after device frame = (own ≡ device) × ReachesBeyond (scene_with hardware trusted) after device frame kind
 DoneIsWrong wrong.Uncertain hardware trusted after device frame = IsUncertain hardware trusted
 DoneIsWrong wrong.Held hardware trusted after device frame = ⊥
@@ -54,7 +54,7 @@ DoneIsWrong wrong.Used hardware trusted after device frame = ⊥
 DoneIsWrong (wrong.NotReady found) hardware trusted after device frame = ⊥
 
 -- that nobody uses the frame
-abbrev pub HandOffIsWrong : Wrong → Board → List ℕ → Claimed → ℕ → Type 0
+abbrev pub HandOffIsWrong : Wrong → ShownHardware → List ℕ → Claimed → ℕ → Type 0
 HandOffIsWrong wrong.Held hardware trusted before frame = SomebodyHolds before frame
 HandOffIsWrong wrong.Lingers hardware trusted before frame = SomebodyLingers before frame
 HandOffIsWrong (wrong.Reached own kind) hardware trusted before frame = IsReachedAs (scene_with hardware trusted) own frame kind
@@ -72,22 +72,22 @@ TakeIsWrong wrong.Uncertain before frame = ⊥
 TakeIsWrong (wrong.NotReady found) before frame = ⊥
 
 -- that hardware doesn't use it
-abbrev pub GrantIsWrong : Wrong → Board → List ℕ → ℕ → Type 0
+abbrev pub GrantIsWrong : Wrong → ShownHardware → List ℕ → ℕ → Type 0
 GrantIsWrong wrong.Used hardware trusted frame = HardwareUses (scene_with hardware trusted) frame
-GrantIsWrong wrong.Uncertain hardware trusted frame = 4096 < length hardware.memory
+GrantIsWrong wrong.Uncertain hardware trusted frame = 4096 < length hardware.board.memory
 GrantIsWrong wrong.Held hardware trusted frame = ⊥
 GrantIsWrong wrong.Lingers hardware trusted frame = ⊥
 GrantIsWrong (wrong.Reached own kind) hardware trusted frame = ⊥
 GrantIsWrong (wrong.NotReady found) hardware trusted frame = ⊥
 
 -- WHAT A WRONG CLAIM MEANS, as hardware stands with these devices trusted, by what was claimed before it and after it
-abbrev pub WrongMeans : Said → Wrong → Board → List ℕ → Claimed → Claimed → Type 0
+abbrev pub WrongMeans : Said → Wrong → ShownHardware → List ℕ → Claimed → Claimed → Type 0
 WrongMeans (claim.Done number) why hardware trusted before after =
     (grant : Grant) × IsOpen before.history (record { number = number; grant = grant }) × DoneIsWrong why hardware trusted after grant.device grant.frame
 WrongMeans (claim.HandOff frame) why hardware trusted before after = HandOffIsWrong why hardware trusted before frame
 WrongMeans (claim.Take frame) why hardware trusted before after = TakeIsWrong why before frame
 WrongMeans (claim.Grant device page frame rights) why hardware trusted before after = GrantIsWrong why hardware trusted frame
-WrongMeans (claim.Ready device page) why hardware trusted before after = ReadyIsWrong why hardware before device page
+WrongMeans (claim.Ready device page) why hardware trusted before after = ReadyIsWrong why hardware.board before device page
 WrongMeans (claim.Release device page) why hardware trusted before after = ⊥
 WrongMeans (claim.Trust device) why hardware trusted before after = ⊥
 

@@ -7,8 +7,9 @@ use iom_board::{CacheReply, Delivered, NoPlace};
 use iom_fabric::Repeat;
 use iom_hardware::Stepped;
 use iom_inflight::MadeAt;
-use iom_iommu::{Fetched, Reply};
+use iom_iommu::{Begun, Fetched, Load, Reply};
 use iom_registers::RegFault;
+use iom_stepped_hardware::StepOutcome;
 use iom_tlb::Space;
 
 /// What comes of a line.
@@ -24,10 +25,16 @@ pub enum Answer {
     QueueSet(Result<(), Refusal>),
     /// A block device took a step.
     TookStep(Result<Stepped, Refusal>),
+    /// A block device took a step, where a walk takes several events.
+    StepOutcome(Result<StepOutcome, Refusal>),
     /// The status of a block device.
     Status(Result<u8, Refusal>),
     /// The IOMMU answers a request so.
     Replied(Result<Reply, Refusal>),
+    /// What becomes of a request that begins, where a walk takes several events.
+    Begun(Result<Begun, Refusal>),
+    /// What becomes of a request at the next load of its walk.
+    WalkLoad(Result<Load, Refusal>),
     /// A device's own cache, or the IOMMU behind it, answers so.
     ThroughCache(Result<CacheReply, Refusal>),
     /// Whether a message is under way, or was lost at once.

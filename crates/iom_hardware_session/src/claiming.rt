@@ -9,6 +9,7 @@ ghost use Rattle.iom_hardware_session.specs.Claiming.{claimed_after};
 ghost use Rattle.iom_hardware_session.specs.Good.{GoodMeans};
 ghost use Rattle.iom_hardware_session.specs.Ready.{IsReady, ReadyIsWrong};
 ghost use Rattle.iom_hardware_session.specs.Lines.{KeepsHardware, KeepsAll, TrustsAlso};
+ghost use Rattle.iom_hardware_session.specs.Shown.{shown_in};
 ghost use Rattle.iom_hardware_session.specs.Watching.{WatchesClaim};
 ghost use Rattle.iom_hardware_session.specs.Wrong.{IfWrong, WrongMeans};
 
@@ -73,10 +74,10 @@ impl Session {
         ensures claimed { (c : Claimed) → ShowsClaimed self.old.claims c
             → ShowsClaimed self.new.claims (claimed_after (said.Grant device page frame rights) result c) }
         ensures good { (c : Claimed) → ShowsClaimed self.old.claims c → result ≡ ClaimAnswer.Good
-            → GoodMeans (said.Grant device page frame rights) self.new.hardware.board self.new.trusted.items c (claimed_after (said.Grant device page frame rights) result c) }
+            → GoodMeans (said.Grant device page frame rights) (shown_in self.new) self.new.trusted.items c (claimed_after (said.Grant device page frame rights) result c) }
         ensures wrong { (c : Claimed) → ShowsClaimed self.old.claims c
             → IfWrong result
-            (λ why. WrongMeans (said.Grant device page frame rights) why self.new.hardware.board self.new.trusted.items c
+            (λ why. WrongMeans (said.Grant device page frame rights) why (shown_in self.new) self.new.trusted.items c
             (claimed_after (said.Grant device page frame rights) result c)) }
         ensures watched { (c : Claimed) → ShowsClaimed self.old.claims c
             → WatchesClaim (said.Grant device page frame rights) result c self.old.watched.items self.new.watched.items }
@@ -129,10 +130,10 @@ impl Session {
         ensures claimed { (c : Claimed) → ShowsClaimed self.old.claims c
             → ShowsClaimed self.new.claims (claimed_after (said.Done number) result c) }
         ensures good { (c : Claimed) → ShowsClaimed self.old.claims c → result ≡ ClaimAnswer.Good
-            → GoodMeans (said.Done number) self.new.hardware.board self.new.trusted.items c (claimed_after (said.Done number) result c) }
+            → GoodMeans (said.Done number) (shown_in self.new) self.new.trusted.items c (claimed_after (said.Done number) result c) }
         ensures wrong { (c : Claimed) → ShowsClaimed self.old.claims c
             → IfWrong result
-            (λ why. WrongMeans (said.Done number) why self.new.hardware.board self.new.trusted.items c (claimed_after (said.Done number) result c)) }
+            (λ why. WrongMeans (said.Done number) why (shown_in self.new) self.new.trusted.items c (claimed_after (said.Done number) result c)) }
         ensures watched { (c : Claimed) → ShowsClaimed self.old.claims c
             → WatchesClaim (said.Done number) result c self.old.watched.items self.new.watched.items }
         ensures admitted { (c : Claimed) → ShowsClaimed self.old.claims c → ClaimIsAdmitted (said.Done number) result self.old.hardware.board c }
@@ -168,10 +169,10 @@ impl Session {
         ensures claimed { (c : Claimed) → ShowsClaimed self.old.claims c
             → ShowsClaimed self.new.claims (claimed_after (said.HandOff frame) result c) }
         ensures good { (c : Claimed) → ShowsClaimed self.old.claims c → result ≡ ClaimAnswer.Good
-            → GoodMeans (said.HandOff frame) self.new.hardware.board self.new.trusted.items c (claimed_after (said.HandOff frame) result c) }
+            → GoodMeans (said.HandOff frame) (shown_in self.new) self.new.trusted.items c (claimed_after (said.HandOff frame) result c) }
         ensures wrong { (c : Claimed) → ShowsClaimed self.old.claims c
             → IfWrong result
-            (λ why. WrongMeans (said.HandOff frame) why self.new.hardware.board self.new.trusted.items c (claimed_after (said.HandOff frame) result c)) }
+            (λ why. WrongMeans (said.HandOff frame) why (shown_in self.new) self.new.trusted.items c (claimed_after (said.HandOff frame) result c)) }
         ensures watched { (c : Claimed) → ShowsClaimed self.old.claims c
             → WatchesClaim (said.HandOff frame) result c self.old.watched.items self.new.watched.items }
         ensures admitted { (c : Claimed) → ShowsClaimed self.old.claims c → ClaimIsAdmitted (said.HandOff frame) result self.old.hardware.board c }
@@ -208,10 +209,10 @@ impl Session {
         ensures claimed { (c : Claimed) → ShowsClaimed self.old.claims c
             → ShowsClaimed self.new.claims (claimed_after (said.Take frame) result c) }
         ensures good { (c : Claimed) → ShowsClaimed self.old.claims c → result ≡ ClaimAnswer.Good
-            → GoodMeans (said.Take frame) self.new.hardware.board self.new.trusted.items c (claimed_after (said.Take frame) result c) }
+            → GoodMeans (said.Take frame) (shown_in self.new) self.new.trusted.items c (claimed_after (said.Take frame) result c) }
         ensures wrong { (c : Claimed) → ShowsClaimed self.old.claims c
             → IfWrong result
-            (λ why. WrongMeans (said.Take frame) why self.new.hardware.board self.new.trusted.items c (claimed_after (said.Take frame) result c)) }
+            (λ why. WrongMeans (said.Take frame) why (shown_in self.new) self.new.trusted.items c (claimed_after (said.Take frame) result c)) }
         ensures watched { (c : Claimed) → ShowsClaimed self.old.claims c
             → WatchesClaim (said.Take frame) result c self.old.watched.items self.new.watched.items }
         ensures admitted { (c : Claimed) → ShowsClaimed self.old.claims c → ClaimIsAdmitted (said.Take frame) result self.old.hardware.board c }
@@ -258,6 +259,7 @@ impl Session {
         ensures trusted { TrustsAlso device result self.old.trusted.items self.new.trusted.items }
         ensures admitted { (c : Claimed) → ShowsClaimed self.old.claims c → ClaimIsAdmitted (said.Trust device) result self.old.hardware.board c }
         ensures hardware { self.new.hardware ≡ self.old.hardware }
+        ensures walks { self.new.walks ≡ self.old.walks }
     {
         if self.hardware.board.kind_of(device).is_none() {
             return ClaimAnswer::Refused(Refusal::NoSuchDevice);

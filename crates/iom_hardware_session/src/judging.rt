@@ -8,6 +8,7 @@ ghost use Rattle.iom_board.specs.BoardParts.{board_parts};
 ghost use Rattle.iom_hardware_session.specs.Claiming.{is_judgement};
 ghost use Rattle.iom_hardware_session.specs.Good.{scene_in, IsCertain, IsNobodys, IsUnused, HasClaimedWaysAlone};
 ghost use Rattle.iom_hardware_session.specs.Lines.{KeepsAll};
+ghost use Rattle.iom_hardware_session.specs.Shown.{shown_in};
 ghost use Rattle.iom_hardware_session.specs.Timely.{IsTimelyMessage};
 ghost use Rattle.iom_hardware_session.specs.Wrong.{IsUntimely, IsUncertain, HardwareUses, DoneIsWrong, HandOffIsWrong, TakeIsWrong, IfWrong};
 ghost use Rattle.iom_ledger.specs.History.{May};
@@ -34,7 +35,8 @@ impl Session {
         if self.hardware.board.memory.frames() > MAX_FRAMES {
             return false;
         }
-        self.survey.look(&self.hardware.board, None, &self.trusted);
+        self.survey
+            .look(&self.hardware.board, self.walks.as_ref(), &self.trusted);
         true
     }
 
@@ -100,7 +102,7 @@ impl Session {
     pub(crate) fn is_certain(&self) -> bool
         requires { IsSurveyOf self.now.survey (scene_in self.now) }
         ensures certain { IsTrue result → IsCertain (scene_in self.now) }
-        ensures uncertain { result ≡ false → IsUncertain self.now.hardware.board self.now.trusted.items }
+        ensures uncertain { result ≡ false → IsUncertain (shown_in self.now) self.now.trusted.items }
     {
         if !self.survey.is_safe() {
             return false;
@@ -169,7 +171,7 @@ impl Session {
         ensures none { (c : Claimed) → ShowsClaimed self.now.claims c
             → result ≡ None → HasClaimedWaysAlone (scene_in self.now) c device frame }
         ensures some { (c : Claimed) → ShowsClaimed self.now.claims c
-            → IfSome result (λ why. DoneIsWrong why self.now.hardware.board self.now.trusted.items c device frame) }
+            → IfSome result (λ why. DoneIsWrong why (shown_in self.now) self.now.trusted.items c device frame) }
     {
         match self.way_beyond(device, frame) {
             Some(kind) => Some(Wrong::Reached(device, kind)),
@@ -181,7 +183,7 @@ impl Session {
     pub(crate) fn left_of_hand_off(&self, frame: u32) -> Option<Wrong>
         requires looked { IsSurveyOf self.now.survey (scene_in self.now) }
         ensures none { result ≡ None → IsOutOfReach (scene_in self.now) frame × IsUnused (scene_in self.now) frame }
-        ensures some { (c : Claimed) → IfSome result (λ why. HandOffIsWrong why self.now.hardware.board self.now.trusted.items c frame) }
+        ensures some { (c : Claimed) → IfSome result (λ why. HandOffIsWrong why (shown_in self.now) self.now.trusted.items c frame) }
     {
         if let Some((device, kind)) = self.first_way_to(frame) {
             return Some(Wrong::Reached(device, kind));
@@ -198,7 +200,7 @@ impl Session {
         ensures good { (c : Claimed) → ShowsClaimed self.now.claims c → result ≡ ClaimAnswer.Good
             → IsCertain (scene_in self.now) × HasClaimedWaysAlone (scene_in self.now) c device frame }
         ensures wrong { (c : Claimed) → ShowsClaimed self.now.claims c
-            → IfWrong result (λ why. DoneIsWrong why self.now.hardware.board self.now.trusted.items c device frame) }
+            → IfWrong result (λ why. DoneIsWrong why (shown_in self.now) self.now.trusted.items c device frame) }
         ensures made { is_judgement result ≡ true }
     {
         if let Some(why) = self.left_of_done(device, frame) {
@@ -214,7 +216,7 @@ impl Session {
     pub(crate) fn judge_hand_off(&self, frame: u32) -> ClaimAnswer
         requires looked { IsSurveyOf self.now.survey (scene_in self.now) }
         ensures good { result ≡ ClaimAnswer.Good → IsCertain (scene_in self.now) × IsOutOfReach (scene_in self.now) frame × IsUnused (scene_in self.now) frame }
-        ensures wrong { (c : Claimed) → IfWrong result (λ why. HandOffIsWrong why self.now.hardware.board self.now.trusted.items c frame) }
+        ensures wrong { (c : Claimed) → IfWrong result (λ why. HandOffIsWrong why (shown_in self.now) self.now.trusted.items c frame) }
         ensures made { is_judgement result ≡ true }
     {
         if let Some(why) = self.left_of_hand_off(frame) {

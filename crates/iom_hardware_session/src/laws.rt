@@ -4,6 +4,7 @@ ghost use Rattle.iom_hardware_session.specs.Laws.{DoneStaysDone, HandedOffStaysF
 ghost use Rattle.iom_hardware_session.specs.Sessions.{AccessesAreClaimed, DoneStaysOutOfReach, HandedOffStaysUntouched};
 
 use iom_hardware_ways::ways_law;
+use iom_stepped_ways::{scene_law, stepped_ways_law};
 
 /// A claim that a withdrawal is done, and that is answered `Good`, stays true whatever hardware and devices do by
 /// themselves; so does one that a frame is handed off, and one that is judged again and still good. It does nothing.
@@ -13,6 +14,8 @@ pub fn good_law()
     ensures again { GoodAgainHolds }
 {
     ways_law();
+    scene_law();
+    stepped_ways_law();
 }
 
 /// In a session of which nothing is wrong, line after line, no access was made against the claims (`accesses`), and at no

@@ -22,8 +22,10 @@ mod same;
 mod session;
 mod software;
 mod state;
+mod stepped_events;
 mod watched;
 mod watching;
+mod whole_events;
 
 pub use answer::{Answer, ClaimAnswer, Found, Wrong};
 pub use session::Stepped;

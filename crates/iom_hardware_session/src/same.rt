@@ -22,7 +22,8 @@ fn are_same_watched(watched: &[Watched], others: &[Watched]) -> bool
 
 impl Session {
     /// Whether the two are equal but for how many events there were, for what was last looked at, and for what is inside
-    /// block devices: then whatever lines go through both, but those of block devices, are answered alike.
+    /// block devices: then whatever lines go through both, but those of block devices, are answered alike. False where a
+    /// walk takes several events: what is under way isn't compared.
     pub fn is_same(&self, other: &Session) -> bool
         ensures { IsTrue result ↔ IsSameSession self.now other.now }
     {
@@ -33,6 +34,9 @@ impl Session {
             return false;
         }
         if !self.claims.is_same(&other.claims) {
+            return false;
+        }
+        if self.walks.is_some() || other.walks.is_some() {
             return false;
         }
         self.hardware.board.is_same(&other.hardware.board)

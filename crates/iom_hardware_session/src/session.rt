@@ -1,4 +1,4 @@
-ghost use Rattle.std.specs.Prelude.{◌≡◌, ◌↔◌, ◌+◌, ◌<◌, ◌^◌, ◌≤◌, [], Some, false, IfOk, IfSome, IfNone, IsTrue};
+ghost use Rattle.std.specs.Prelude.{◌≡◌, ◌↔◌, ◌+◌, ◌<◌, ◌^◌, ◌≤◌, [], Some, false, option_map, IfOk, IfSome, IfNone, IsTrue};
 ghost use Rattle.iom_claims.specs.Claimed.{Claimed, nothing_claimed};
 ghost use Rattle.iom_claims.specs.Shown.{ShowsClaimed};
 ghost use Rattle.iom_block_devices.specs.Changes.{block_with};
@@ -10,6 +10,7 @@ ghost use Rattle.iom_hardware_session.specs.Claiming.{claimed_after};
 ghost use Rattle.iom_hardware_session.specs.Answered.{judgement_in};
 ghost use Rattle.iom_hardware_session.specs.Runs.{is_wrong_claim, has_fallen, is_wrong_by};
 ghost use Rattle.iom_hardware_session.specs.Good.{GoodMeans};
+ghost use Rattle.iom_hardware_session.specs.Paces.{walks_at_power_on};
 ghost use Rattle.iom_hardware_session.specs.Shown.{shown_in};
 ghost use Rattle.iom_hardware_session.specs.Watching.{WatchesClaim};
 ghost use Rattle.iom_hardware_session.specs.Wrong.{IfWrong, WrongMeans};
@@ -25,11 +26,13 @@ use iom_base::{Access, AccessKind, DeviceId};
 use iom_board::Board;
 use iom_claims::Claims;
 use iom_hardware::Hardware;
-use iom_hardware_script::{Claim, HardwareLine};
+use iom_hardware_script::{Claim, HardwareLine, Pace, Setup};
 use iom_inflight::MadeAt;
 use iom_machine::Event;
 use iom_phys_mem::MemError;
 use iom_program_disks::program_disks;
+use iom_stepped_hardware::laws::events_stay_beside;
+use iom_walks::Walks;
 use iom_way_survey::{Conflict, Survey};
 use std::alloc::{AllocError, Global};
 
@@ -41,9 +44,11 @@ pub struct Stepped {
 }
 
 impl Session {
-    /// Hardware at power-on, with so many frames of memory and the disks of the programs at hand, and nothing claimed.
-    pub fn new(alloc: Global, frames: u32) -> Result<Session, MemError>
-        ensures power_on { IfOk result (λ session. IsHardwareAtPowerOn frames program_disks session.hardware.board (inside disk_state session.hardware)) }
+    /// Hardware at power-on, of this pace and with so many frames of memory, with the disks of the programs at hand, nothing
+    /// under way and nothing claimed.
+    pub fn new(alloc: Global, setup: Setup) -> Result<Session, MemError>
+        ensures power_on { IfOk result (λ session. IsHardwareAtPowerOn setup.frames program_disks session.hardware.board (inside disk_state session.hardware)) }
+        ensures walks { IfOk result (λ session. session.walks ≡ walks_at_power_on setup.pace) }
         ensures claims { IfOk result (λ session. ShowsClaimed session.claims nothing_claimed) }
         ensures trusted { IfOk result (λ session. session.trusted.items ≡ []) }
         ensures watched { IfOk result (λ session. session.watched.items ≡ []) }
@@ -51,12 +56,17 @@ impl Session {
         let Ok(disks) = program_disks(alloc) else {
             return Err(MemError::OutOfMemory);
         };
-        let hardware = Hardware::new(alloc, frames, disks)?;
+        let hardware = Hardware::new(alloc, setup.frames, disks)?;
         let Ok(survey) = Survey::new(alloc) else {
             return Err(MemError::OutOfMemory);
         };
+        let Ok(walks) = walks_of(alloc, setup.pace) else {
+            return Err(MemError::OutOfMemory);
+        };
+        events_stay_beside();
         Ok(Session {
             hardware,
+            walks,
             claims: Claims::new(alloc),
             trusted: Vec::new(alloc),
             watched: Vec::new(alloc),
@@ -70,6 +80,13 @@ impl Session {
         ensures { result.now ≡ self.now.hardware.board }
     {
         &self.hardware.board
+    }
+
+    /// The requests that are under way, where a walk takes several events.
+    pub fn walks(&self) -> Option<&Walks>
+        ensures { option_map (λ w. w.now) result ≡ self.now.walks }
+    {
+        self.walks.as_ref()
     }
 
     /// The access that the block device wants, or waits for where it began that. None where it wants none, or no block
@@ -98,14 +115,15 @@ impl Session {
     fn claim(&mut self, claim: Claim) -> ClaimAnswer
         ensures claimed { (c : Claimed) → ShowsClaimed self.old.claims c → ShowsClaimed self.new.claims (claimed_after claim result c) }
         ensures good { (c : Claimed) → ShowsClaimed self.old.claims c
-            → result ≡ ClaimAnswer.Good → GoodMeans claim self.new.hardware.board self.new.trusted.items c (claimed_after claim result c) }
+            → result ≡ ClaimAnswer.Good → GoodMeans claim (shown_in self.new) self.new.trusted.items c (claimed_after claim result c) }
         ensures wrong { (c : Claimed) → ShowsClaimed self.old.claims c
-            → IfWrong result (λ why. WrongMeans claim why self.new.hardware.board self.new.trusted.items c (claimed_after claim result c)) }
+            → IfWrong result (λ why. WrongMeans claim why (shown_in self.new) self.new.trusted.items c (claimed_after claim result c)) }
         ensures watched { (c : Claimed) → ShowsClaimed self.old.claims c
             → WatchesClaim claim result c self.old.watched.items self.new.watched.items }
         ensures admitted { (c : Claimed) → ShowsClaimed self.old.claims c → ClaimIsAdmitted claim result self.old.hardware.board c }
         ensures trusts { Trusts claim result self.old.trusted.items self.new.trusted.items }
         ensures hardware { self.new.hardware ≡ self.old.hardware }
+        ensures walks { self.new.walks ≡ self.old.walks }
     {
         match claim {
             Claim::Grant {
@@ -148,9 +166,9 @@ impl Session {
         ensures effect { LineEffect line.now result (shown_in self.old) (shown_in self.new) }
         ensures claimed { (c : Claimed) → ShowsClaimed self.old.claims c → ShowsClaimed self.new.claims (claimed_by line.now result c) }
         ensures trusted { TrustsBy line.now result self.old.trusted.items self.new.trusted.items }
-        ensures good { (c : Claimed) → ShowsClaimed self.old.claims c → IsGoodLine line.now result self.new.hardware.board self.new.trusted.items c }
+        ensures good { (c : Claimed) → ShowsClaimed self.old.claims c → IsGoodLine line.now result (shown_in self.new) self.new.trusted.items c }
         ensures wrong { (c : Claimed) → ShowsClaimed self.old.claims c
-            → IsWrongLine line.now result self.new.hardware.board self.new.trusted.items c }
+            → IsWrongLine line.now result (shown_in self.new) self.new.trusted.items c }
         ensures admitted { (c : Claimed) → ShowsClaimed self.old.claims c → IsAdmittedLine line.now result self.old.hardware.board c }
         ensures watched { (c : Claimed) → ShowsClaimed self.old.claims c
             → WatchesStep line.now result c self.old.watched.items self.new.watched.items }
@@ -158,6 +176,7 @@ impl Session {
     {
         match line {
             HardwareLine::Event(event) => self.event(event),
+            HardwareLine::Load { device } => self.load_next(*device),
             HardwareLine::RegisterRead { offset, width } => self.read_register(*offset, *width),
             HardwareLine::RegisterWrite {
                 offset,
@@ -177,9 +196,9 @@ impl Session {
         ensures claimed { (c : Claimed) → ShowsClaimed self.old.claims c
             → ShowsClaimed self.new.claims (claimed_by line.now result.answer c) }
         ensures trusted { TrustsBy line.now result.answer self.old.trusted.items self.new.trusted.items }
-        ensures good { (c : Claimed) → ShowsClaimed self.old.claims c → IsGoodLine line.now result.answer self.new.hardware.board self.new.trusted.items c }
+        ensures good { (c : Claimed) → ShowsClaimed self.old.claims c → IsGoodLine line.now result.answer (shown_in self.new) self.new.trusted.items c }
         ensures wrong { (c : Claimed) → ShowsClaimed self.old.claims c
-            → IsWrongLine line.now result.answer self.new.hardware.board self.new.trusted.items c }
+            → IsWrongLine line.now result.answer (shown_in self.new) self.new.trusted.items c }
         ensures admitted { (c : Claimed) → ShowsClaimed self.old.claims c → IsAdmittedLine line.now result.answer self.old.hardware.board c }
         ensures watched { (c : Claimed) → ShowsClaimed self.old.claims c → WatchesBy line.now result.answer c self.old self.new }
         ensures violated { (c : Claimed) → ShowsClaimed self.old.claims c → IsTrue result.violated ↔ IsViolation c (made_by result.answer) }
@@ -209,6 +228,19 @@ impl Session {
         ensures { result.now ≡ self.now.watched.items }
     {
         &self.watched
+    }
+}
+
+/// Nothing is under way; there is room for it where a walk takes several events.
+fn walks_of(alloc: Global, pace: Pace) -> Result<Option<Walks>, AllocError>
+    ensures { IfOk result (λ walks. walks ≡ walks_at_power_on pace) }
+{
+    match pace {
+        Pace::Whole => Ok(None),
+        Pace::Stepped => {
+            let walks = Walks::new(alloc)?;
+            Ok(Some(walks))
+        }
     }
 }
 

@@ -7,6 +7,7 @@ use crate::answer::Answer;
 use crate::state::Session;
 use iom_board::laws::software_keeps_invariant;
 use iom_registers::Mmio;
+use iom_stepped_hardware::laws::events_stay_beside;
 
 /// The width of an access in bytes, as registers take it. None of them has the widest.
 fn width_of(width: u64) -> u32
@@ -54,6 +55,7 @@ impl Session {
             return Answer::Written(Ok(()));
         }
         software_keeps_invariant();
+        events_stay_beside();
         Answer::Written(
             self.hardware
                 .board

@@ -1,2 +1,3 @@
 mod OpeningLemmas
 mod LineLemmas
+mod WholeLemmas

@@ -1,5 +1,5 @@
 -- What hardware under a driver is, for a litmus test: what later answers can depend on.
-use Rattle.std.specs.Prelude.{◌≡◌, ℕ, List}
+use Rattle.std.specs.Prelude.{◌≡◌, ℕ, List, None}
 use Rattle.iom_claims.specs.Rows.{Rows}
 use Rattle.iom_hardware_session.specs.declared.state.Session.{Session}
 use Rattle.iom_hardware_session.specs.declared.watched.Watched.{Watched}
@@ -20,6 +20,10 @@ place_of session = record {
   trusted = session.trusted.items;
   watched = session.watched.items;
 }
+
+-- each walk of the session's hardware is one event. Places don't say what is under way, so they are compared of such sessions alone
+abbrev pub IsWhole : Session → Type 0
+IsWhole session = session.walks ≡ None
 
 -- the same, with the ids of the devices
 pub record Tested : Type 0 where

@@ -29,7 +29,7 @@ pub struct UnderTest {
 
 impl Model for UnderTest {
     ghost use Rattle.std.specs.Coded.{codes};
-    ghost use Rattle.iom_litmus_hardware.specs.Places.{Tested, place_of};
+    ghost use Rattle.iom_litmus_hardware.specs.Places.{Tested, place_of, IsWhole};
     ghost use Rattle.iom_litmus_looks.specs.Codes.{rows_coded, translations_coded};
 
     ghost Value = { Tested };
@@ -37,6 +37,8 @@ impl Model for UnderTest {
     ghost coded = { Prim.hlevel (codes, rows_coded, translations_coded) };
 
     ghost view = { λ t. record { place = place_of t.session; ids = t.ids } };
+
+    ghost invariant = { λ t. IsWhole t.session };
 }
 
 impl UnderTest {

@@ -187,7 +187,6 @@ impl Draft {
         match part {
             "fetch" => self.parts.fetch = true,
             "commit" => self.parts.commit = true,
-            "load" => self.parts.load = true,
             "deliver" => self.parts.deliver = true,
             "in-order" => self.parts.in_order = true,
             _ => {

@@ -1,7 +1,7 @@
 //! Tests of hardware under somebody's driver.
 use crate::fault::{TestFault, Trouble};
 use iom_base::Sequence;
-use iom_hardware_script::{HardwareLine, setup_of};
+use iom_hardware_script::{HardwareLine, Pace, Setup, setup_of};
 use iom_litmus_hardware::{Opening, line_for_tests};
 use iom_litmus_test::{Column, NumberedText, Test};
 use std::alloc::Global;
@@ -13,12 +13,11 @@ fn not_of_language(number: u64) -> TestFault {
     }
 }
 
-/// What the text of a line says. Lines that ask hardware to act by itself aren't for tests, which say that by their parts;
-/// nor are those of block devices.
+/// What the text of a line says, where a test can have it.
 fn said_by(alloc: Global, number: u64, text: &[u8]) -> Result<HardwareLine, TestFault> {
     match line_for_tests(alloc, text)? {
-        None | Some(HardwareLine::Help(_)) => Err(not_of_language(number)),
         Some(said) => Ok(said),
+        None => Err(not_of_language(number)),
     }
 }
 
@@ -31,12 +30,18 @@ fn lines_of(alloc: Global, texts: &[NumberedText]) -> Result<Sequence<HardwareLi
     Ok(lines)
 }
 
-/// How the test begins. None where its first line asks for no hardware.
+/// How the test begins. None where its first line asks for no hardware, or for one whose walks take several events.
 pub(crate) fn opening_of(alloc: Global, test: &Test) -> Result<Option<Opening>, TestFault> {
     let Some((first, others)) = test.opening.as_slice().split_first() else {
         return Ok(None);
     };
-    let Some(frames) = setup_of(first.text.as_slice()) else {
+    let Some(
+        Setup {
+            frames,
+            pace: Pace::Whole,
+        },
+    ) = setup_of(first.text.as_slice())
+    else {
         return Ok(None);
     };
     let lines = lines_of(alloc, others)?;

@@ -99,5 +99,12 @@ fn a_line_is_named(rt: HostRuntime) -> Result<(), Fail> {
     };
     let labelled_twice = b"VIZKRUN t\n{\n}\n A ;\n a: poll ;\n a: poll ;\nexists (A:a = \"x\")\n";
     expect(&rt, why_not(alloc, labelled_twice) == Some(twice));
+    let no_part = ReadFault::Line {
+        number: 6,
+        why: Why::BadPart,
+    };
+    let loads_by_itself =
+        b"VIZKRUN t\n{\n}\n A ;\n a: poll ;\nhardware load\nexists (A:a = \"x\")\n";
+    expect(&rt, why_not(alloc, loads_by_itself) == Some(no_part));
     Ok(())
 }

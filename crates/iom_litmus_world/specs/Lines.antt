@@ -1,5 +1,6 @@
 -- What comes of a line, and of what hardware does by itself.
 use Rattle.std.specs.Prelude.{◌≡◌, ◌⊎◌, ℕ, Bool, true, false, List, Option, None}
+use Rattle.iom_base.specs.DeviceKinds.{kind_of, is_block_device}
 use Rattle.iom_inflight.specs.declared.made.MadeAt.{MadeAt}
 use Rattle.iom_inflight.specs.Flights.{oldest_in, row_of}
 use Rattle.iom_iommu.specs.Parts.{flights_of}
@@ -16,8 +17,9 @@ use Rattle.iom_world.specs.declared.world.World.{World}
 use Rattle.iom_world.specs.Shown.{shown_of}
 use Rattle.iom_litmus_world.specs.Places.{WorldPlace, place_of}
 
--- whether the event is one of a block device, which places don't compare
+-- whether the event is one of a block device, which places don't compare: that one is plugged in, too
 abbrev pub is_of_block : Event → Bool
+is_of_block (events.Plug device what) = is_block_device (kind_of what)
 is_of_block (events.Medium device disk) = true
 is_of_block (events.Queue device size descriptors available used) = true
 is_of_block (events.Step device) = true

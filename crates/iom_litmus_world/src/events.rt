@@ -14,14 +14,17 @@ use iom_virtio_blk::Disk;
 use iom_world::World;
 use std::alloc::{AllocError, Global};
 
-/// Whether the event is one of a block device.
+/// Whether the event is one of a block device: that one is plugged in, too.
 pub(crate) fn is_of_block(event: &Event) -> bool
     ensures { result ≡ is_of_block event.now }
 {
-    matches!(
-        event,
-        Event::Medium { .. } | Event::Queue { .. } | Event::Step { .. } | Event::Status { .. }
-    )
+    match event {
+        Event::Plug { new, .. } => new.kind().is_block_device(),
+        Event::Medium { .. } | Event::Queue { .. } | Event::Step { .. } | Event::Status { .. } => {
+            true
+        }
+        _ => false,
+    }
 }
 
 /// The event that a line of a test says. None where it says none, or one of a block device.

@@ -9,7 +9,7 @@ returns-then-not-is_spoken c = skipped c.args.script.now c.args.number c.args.li
 
 pub returns-in-Some-setup_of : goal.returns-in-Some-setup_of
 returns-in-Some-setup_of c =
-    setup_taken c.args.script.now _ c.args.number c.args.line.now c.in-Some-setup_of.frames (sym c.if-not-is_spoken.ensures) c.in-None.is c.in-Some-setup_of.ensures refl refl
+    setup_taken c.args.script.now _ c.args.number c.args.line.now c.in-Some-setup_of.setup (sym c.if-not-is_spoken.ensures) c.in-None.is c.in-Some-setup_of.ensures refl refl
 
 pub returns-in-None-setup_of : goal.returns-in-None-setup_of
 returns-in-None-setup_of c =

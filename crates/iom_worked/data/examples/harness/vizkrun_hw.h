@@ -51,8 +51,8 @@ __attribute__((format(printf, 2, 3))) static inline const char *hw_say(struct hw
 	hw_fail("the program gives no answer", line);
 }
 
-/* Starts the program, with a memory of so many frames. The session goes to the file `log`, where that isn't NULL. */
-static inline void hw_start(struct hw *hw, const char *program, const char *log, unsigned frames)
+/* Starts the program, with the hardware that these words ask for: "64", or "64 stepped". The session goes to the file `log`, where that isn't NULL. */
+static inline void hw_start_with(struct hw *hw, const char *program, const char *log, const char *hardware)
 {
 	int to[2], from[2];
 	if (pipe(to) || pipe(from) || (hw->pid = fork()) < 0)
@@ -70,8 +70,16 @@ static inline void hw_start(struct hw *hw, const char *program, const char *log,
 	hw->steps = stderr;
 	hw->to = fdopen(to[1], "w");
 	hw->from = fdopen(from[0], "r");
-	if (!hw->to || !hw->from || strcmp(hw_say(hw, "hardware %u", frames), "ok"))
+	if (!hw->to || !hw->from || strcmp(hw_say(hw, "hardware %s", hardware), "ok"))
 		hw_fail("no hardware", program);
+}
+
+/* Hardware with so many frames of memory, whose walks are one event each. */
+static inline void hw_start(struct hw *hw, const char *program, const char *log, unsigned frames)
+{
+	char hardware[16];
+	snprintf(hardware, sizeof hardware, "%u", frames);
+	hw_start_with(hw, program, log, hardware);
 }
 
 /* The value of the register at the offset, of 4 or 8 bytes. */

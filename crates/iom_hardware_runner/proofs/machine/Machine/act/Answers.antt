@@ -1,11 +1,11 @@
 use Rattle.std.proofs.Common.{not, refl, sym, ◌∙◌}
 use Rattle.iom_hardware_runner.proofs.RunLemmas.{draws_nothing, draws_few_ok}
-use Rattle.iom_hardware_runner.specs.Parts.{asks_at, is_off}
+use Rattle.iom_hardware_runner.specs.Parts.{does_itself, is_off}
 use Rattle.iom_hardware_runner.proofs.machine.Machine.act.Goals as goal
 
 pub returns-then-is_off-clause-acts : goal.returns-then-is_off-clause-acts
 returns-then-is_off-clause-acts c =
-    draws_nothing (asks_at c.args.self.now.helper) (not (is_off c.args.self.now.helper)) c.args.self.now.teller c.args.self.now.teller refl
+    draws_nothing (does_itself c.args.self.now.teller c.args.self.now.helper) (not (is_off c.args.self.now.helper)) c.args.self.now.teller c.args.self.now.teller refl
 
 pub returns-clause-acts : goal.returns-clause-acts
 returns-clause-acts c =

@@ -1,12 +1,12 @@
 use Rattle.std.proofs.Common.{arith, refl, ◌∙◌}
 use Rattle.iom_hardware_runner.proofs.RunLemmas.{does_nothing, does_at_most, acts_once_more, few_none}
-use Rattle.iom_hardware_runner.specs.Parts.{AreFew, asks_at}
+use Rattle.iom_hardware_runner.specs.Parts.{AreFew, does_itself}
 use Rattle.iom_hardware_runner.proofs.machine.Machine.act_often.Goals as goal
 
 pub loop-taken-init : goal.loop-taken-init
 loop-taken-init c =
-    let may = asks_at c.args.self.now.helper in
-    (does_nothing (AreFew may 0) c.args.self.now.teller c.args.self.now.teller refl (few_none may 0), refl)
+    let can = does_itself c.args.self.now.teller c.args.self.now.helper in
+    (does_nothing (AreFew can 0) c.args.self.now.teller c.args.self.now.teller refl (few_none can 0), refl)
 
 pub loop-taken-preserved : goal.loop-taken-preserved
 loop-taken-preserved c = (
@@ -17,4 +17,4 @@ loop-taken-preserved c = (
 
 pub returns-clause-acts : goal.returns-clause-acts
 returns-clause-acts c =
-    does_at_most (asks_at c.args.self.now.helper) c.loop-taken._taken c.args.count c.args.self.now.teller c.loop-taken.self.teller (omega arith) c.loop-taken.invariant.0
+    does_at_most (does_itself c.args.self.now.teller c.args.self.now.helper) c.loop-taken._taken c.args.count c.args.self.now.teller c.loop-taken.self.teller (omega arith) c.loop-taken.invariant.0

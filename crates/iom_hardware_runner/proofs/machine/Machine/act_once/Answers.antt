@@ -1,6 +1,6 @@
 use Rattle.std.proofs.Common.{refl}
 use Rattle.iom_hardware_runner.proofs.RunLemmas.{does_nothing, few_none, few_kept_ok}
-use Rattle.iom_hardware_runner.specs.Parts.{AreFew, asks_at}
+use Rattle.iom_hardware_runner.specs.Parts.{AreFew, does_itself}
 use Rattle.iom_hardware_runner.proofs.machine.Machine.act_once.Goals as goal
 
 pub returns-in-Some-clause-acts : goal.returns-in-Some-clause-acts
@@ -9,5 +9,5 @@ returns-in-Some-clause-acts c =
 
 pub returns-in-None-clause-acts : goal.returns-in-None-clause-acts
 returns-in-None-clause-acts c =
-    let may = asks_at c.args.self.now.helper in
-    does_nothing (AreFew may 1) c.args.self.now.teller c.args.self.now.teller refl (few_none may 1)
+    let can = does_itself c.args.self.now.teller c.args.self.now.helper in
+    does_nothing (AreFew can 1) c.args.self.now.teller c.args.self.now.teller refl (few_none can 1)

@@ -4,6 +4,7 @@ use Rattle.iom_reach.specs.Laws.{IsOutOfReach}
 use Rattle.iom_hardware_session.proofs.DoneLemmas.{hand_off_wrong, judgement_admitted}
 use Rattle.iom_hardware_script.specs.declared.script.Claim.TheVariants as said
 use Rattle.iom_hardware_session.specs.Admitted.{IsFrameOfMemory}
+use Rattle.iom_hardware_session.specs.Shown.{shown_in}
 use Rattle.iom_hardware_session.proofs.state.Session.claim_hand_off.Goals as goal
 
 pub returns-clause-good : goal.returns-clause-good
@@ -18,7 +19,7 @@ returns-clause-good c = λ claimed shows is.
 
 pub returns-clause-wrong : goal.returns-clause-wrong
 returns-clause-wrong c = λ claimed shows.
-    hand_off_wrong c.look.new.self.hardware.board c.look.new.self.trusted.items claimed c.in-Ok.number c.args.frame c.judge_hand_off-found.result c.in-Ok.ensures.number.0 c.judge_hand_off-found.ensures.made (c.judge_hand_off-found.ensures.wrong claimed)
+    hand_off_wrong (shown_in c.look.new.self) c.look.new.self.trusted.items claimed c.in-Ok.number c.args.frame c.judge_hand_off-found.result c.in-Ok.ensures.number.0 c.judge_hand_off-found.ensures.made (c.judge_hand_off-found.ensures.wrong claimed)
 
 pub returns-clause-admitted : goal.returns-clause-admitted
 returns-clause-admitted c = λ claimed shows.

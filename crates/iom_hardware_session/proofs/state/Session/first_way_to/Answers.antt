@@ -3,16 +3,19 @@ use Rattle.std.proofs.lemmas.Bool.Decides.{eqb_tells}
 use Rattle.std.proofs.lemmas.Option.{slice_get_within, slice_get_read}
 use Rattle.iom_device.specs.declared.device.Device.{Device}
 use Rattle.iom_board.specs.BoardParts.{board_parts}
+use Rattle.iom_hardware.specs.Inside.{inside}
+use Rattle.iom_virtio_blk.specs.MemoryDisks.{disk_state}
 use Rattle.iom_reach.specs.Ways.{Way}
 use Rattle.iom_way_survey.specs.Surveys.{is_id_among}
 use Rattle.iom_hardware_session.specs.Good.{scene_in}
-use Rattle.iom_hardware_session.proofs.WayLemmas.{has_place, one_there}
+use Rattle.iom_hardware_session.proofs.WayLemmas.{place_beside, one_there}
 use Rattle.iom_hardware_session.proofs.state.Session.first_way_to.Goals as goal
 
 pub returns-clause-none : goal.returns-clause-none
 returns-clause-none c = λ is device kind way.
     let session = c.args.self.now in
-    let (k, own, there, same) = has_place (is_id_among session.trusted.items) (board_parts session.hardware.board) session.hardware.board.events device c.args.frame kind session.invariants way in
+    let (k, own, there, same) = place_beside (is_id_among session.trusted.items) (board_parts session.hardware.board) (inside disk_state session.hardware).blocks session.walks session.hardware.board.events device
+    c.args.frame kind session.invariants session.beside way in
     let within = slice_get_within session.hardware.board.devices.items k own there in
     c.loop-place.invariant k own kind (omega (arith, within, c.len-place-end.ensures, c.loop-place-test.false, session.hardware.board.devices.ok.0)) there
     (subst (λ (d : ℕ). Way (scene_in session) d c.args.frame kind) (sym same) way)

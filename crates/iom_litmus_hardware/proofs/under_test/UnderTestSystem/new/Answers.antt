@@ -6,7 +6,7 @@ use Rattle.iom_litmus_hardware.proofs.under_test.UnderTestSystem.new.Goals as go
 pub returns : goal.returns
 returns c = (
   c.in_ok-session.session,
-  c.in_ok-session.ensures,
+  c.in_ok-session.ensures.opened,
   refl,
   c.in_ok-ids.ensures ∙ ap ids_of (c.deref.ensures.value ∙ ap (λ (h : Board). h.devices.items) c.hardware.ensures),
 )
