@@ -80,6 +80,18 @@ fn is_first_spoken(text: &str, number: usize) -> bool {
     !before.into_iter().any(|line| is_spoken(line.as_bytes()))
 }
 
+/// What is wrong with how the line ends, if anything is. A line ends with a line feed alone.
+fn wrong_end(text: &str, place: usize) -> Option<&'static str> {
+    let line = text.split('\n').nth(place.saturating_sub(1))?;
+    if line.ends_with('\r') {
+        return Some("it ends with a carriage return");
+    }
+    if text.split('\n').count() == place {
+        return Some("it ends without a line feed");
+    }
+    None
+}
+
 /// Tells what is wrong with the line, which isn't in the grammar.
 fn complain_of_line(rt: &HostRuntime, name: &str, bytes: &[u8], number: u64) {
     let place = usize::try_from(number).unwrap_or(usize::MAX);
@@ -88,12 +100,21 @@ fn complain_of_line(rt: &HostRuntime, name: &str, bytes: &[u8], number: u64) {
         return;
     };
     let line = text.lines().nth(place.saturating_sub(1)).unwrap_or("");
-    let forms: &[&'static str] = if is_first_spoken(text, place) {
-        &FIRST
-    } else {
-        &SCRIPT_FORMS
-    };
+    let is_first = is_first_spoken(text, place);
+    if line.starts_with("world ") && !is_first {
+        let _ = eprintln!(rt;
+            "iommu-tell: {name}: line {number}: bad script: `world` is said once, first of all"
+        );
+        return;
+    }
+    let forms: &[&'static str] = if is_first { &FIRST } else { &SCRIPT_FORMS };
     let wrong = explain(line, forms);
+    if wrong.found.is_empty() {
+        if let Some(end) = wrong_end(text, place) {
+            let _ = eprintln!(rt; "iommu-tell: {name}: line {number}: bad script: {end}");
+            return;
+        }
+    }
     let (column, found, expected, form) = (wrong.column, wrong.found, wrong.expected, wrong.form);
     let _ = eprintln!(rt;
         "iommu-tell: {name}: line {number}, column {column}: bad script: `{found}` stands where {expected} was expected ({form})"
