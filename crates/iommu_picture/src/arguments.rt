@@ -99,14 +99,17 @@ fn chosen_device(matches: &ArgMatches<'_>) -> Result<Option<u32>, ArgumentsFault
     }
 }
 
-/// What is chosen of the trace.
+/// What is chosen of the trace. Lines from one on up to an earlier one are none.
 fn choice_of(matches: &ArgMatches<'_>) -> Result<Choice, ArgumentsFault> {
     let everything = Choice::everything();
-    let from = number_of(matches, "from")?;
-    let to = number_of(matches, "to")?;
+    let from = number_of(matches, "from")?.unwrap_or(everything.from);
+    let to = number_of(matches, "to")?.unwrap_or(everything.to);
+    if from > to {
+        return Err(ArgumentsFault::Bad);
+    }
     Ok(Choice {
-        from: from.unwrap_or(everything.from),
-        to: to.unwrap_or(everything.to),
+        from,
+        to,
         frame: number_of(matches, "frame")?,
         device: chosen_device(matches)?,
     })
