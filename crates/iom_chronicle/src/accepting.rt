@@ -5,10 +5,13 @@ use crate::chronicle::Chronicle;
 use crate::found::{mode_of, space_of, tables_of};
 use crate::levels::Target;
 use crate::origin::{Entrance, Origin, Through};
+use crate::pointers::tables_at;
 use iom_base::{DeviceId, PAGE_SIZE};
 use iom_board::Board;
 use iom_device_dir::{Context, FirstStage, SecondStage};
+use iom_pointers::lead;
 use iom_registers::DirectoryMode;
+use iom_tlb::Space;
 
 /// What the access of the device that was accepted last does, on which frame.
 fn newest(hardware: &Board, device: DeviceId) -> Option<Target> {
@@ -90,6 +93,27 @@ impl Chronicle {
         }
     }
 
+    /// A pointer that was cached before, at which a walk of the page began that led to the frame.
+    fn through_pointer(
+        &self,
+        hardware: &Board,
+        space: Space,
+        page: u64,
+        target: Target,
+    ) -> Option<Through> {
+        let known = self.pointers.deepest(space, page)?;
+        let found = lead(&hardware.memory, known.what.hand(page), target.kind)?;
+        if found.frame != target.frame {
+            return None;
+        }
+        let address = tables_at(&known.what).leaf_of(&hardware.memory, page)?;
+        Some(Through::WalkFromPointer {
+            address,
+            stored: self.words.at(address),
+            pointer_since: known.line,
+        })
+    }
+
     fn through_context(
         &self,
         hardware: &Board,
@@ -103,6 +127,9 @@ impl Chronicle {
         };
         if let Some(since) = self.translations.since_for(space, page, target.kind) {
             return Through::CachedTranslation { page, since };
+        }
+        if let Some(through) = self.through_pointer(hardware, space, page, target) {
+            return through;
         }
         match walked_to(hardware, context, page, target) {
             Some(address) => Through::Walk {

@@ -7,10 +7,12 @@ use crate::contexts::ContextLines;
 use crate::flights::FlightLines;
 use crate::messages::MessageLines;
 use crate::origin::Origin;
+use crate::pointers::PointerLines;
 use crate::translations::TranslationLines;
 use crate::words::WordLines;
 use iom_base::DeviceId;
 use iom_board::Board;
+use iom_pointers::Pointer;
 use iom_tlb::Space;
 use std::alloc::{AllocError, Global};
 
@@ -21,6 +23,7 @@ pub struct Chronicle {
     pub(crate) words: WordLines,
     pub(crate) contexts: ContextLines,
     pub(crate) translations: TranslationLines,
+    pub(crate) pointers: PointerLines,
     pub(crate) caches: CacheLines,
     pub(crate) messages: MessageLines,
     pub(crate) flights: FlightLines,
@@ -35,6 +38,7 @@ impl Chronicle {
             words: WordLines::new(alloc, frames)?,
             contexts: ContextLines::new(alloc)?,
             translations: TranslationLines::new(alloc)?,
+            pointers: PointerLines::new(alloc)?,
             caches: CacheLines::new(alloc)?,
             messages: MessageLines::new(alloc)?,
             flights: FlightLines::new(alloc)?,
@@ -81,6 +85,14 @@ impl Chronicle {
         self.caches
             .notice(&hardware.devices, &self.messages, self.line);
         self.messages.notice(&hardware.fabric, self.line);
+    }
+
+    /// Compares the pointers to tables that hardware caches with those that are remembered. To be called behind
+    /// [`Chronicle::notice`], where hardware caches any.
+    pub fn notice_pointers(&mut self, pointers: &[Pointer])
+        ensures { self.new ≡ record self.old { pointers = self.new.pointers } }
+    {
+        self.pointers.notice(pointers, self.line);
     }
 
     /// The device may reach the frame at the page from this line on. The frame is handed on no more.
@@ -143,6 +155,14 @@ impl Chronicle {
     /// When the frame was handed on. None where it isn't.
     pub fn handed_on_at(&self, frame: u32) -> Option<u64> {
         self.claims.handed_on_at(frame)
+    }
+
+    /// Since when the pointer is cached at which a walk to the page of the address space begins. None where none was noticed.
+    pub fn pointed_since(&self, space: Space, page: u64) -> Option<u64> {
+        match self.pointers.deepest(space, page) {
+            Some(known) => Some(known.line),
+            None => None,
+        }
     }
 
     /// Since when a translation of the page of the address space is cached. None where none was noticed.

@@ -19,6 +19,7 @@ mod found;
 mod levels;
 mod messages;
 mod origin;
+mod pointers;
 mod queues;
 mod reply;
 mod sent;

@@ -35,6 +35,12 @@ pub enum Through {
         stored: u64,
         context_since: Option<u64>,
     },
+    /// The same, where the walk began at a table that a cached pointer names, since when.
+    WalkFromPointer {
+        address: u64,
+        stored: u64,
+        pointer_since: u64,
+    },
     /// A walk whose loads are events of their own: its last load was made at that line.
     WalkEnded {
         line: u64,
@@ -76,6 +82,14 @@ impl fmt::Display for Through {
                 )?;
                 write_context(f, context_since)
             }
+            Through::WalkFromPointer {
+                address,
+                stored,
+                pointer_since,
+            } => write!(
+                f,
+                "walk to the entry at 0x{address:x} stored at line {stored} under a table pointer cached since line {pointer_since}"
+            ),
             Through::WalkEnded { line } => write!(f, "walk that ended at line {line}"),
             Through::Forged => f.write_str("forged translated request, let through by EN_ATS"),
         }

@@ -39,6 +39,11 @@ pub enum WayFound {
         address: u64,
         since: u64,
     },
+    /// A walk ends at the entry that begins at a table which a cached pointer names.
+    PointedEntry {
+        address: u64,
+        since: u64,
+    },
     /// No address is translated, whoever asks.
     DirectoryBare,
     /// No address of the device is translated.
@@ -72,6 +77,10 @@ impl fmt::Display for WayFound {
                 write_context(f, context)?;
                 write!(f, "entry at 0x{address:x} since line {since}")
             }
+            WayFound::PointedEntry { address, since } => write!(
+                f,
+                "cached pointer to the table of the entry at 0x{address:x} since line {since}"
+            ),
             WayFound::DirectoryBare => f.write_str("ddtp in mode Bare"),
             WayFound::StagesBare => f.write_str("context with both stages Bare"),
             WayFound::Forger { since } => {
@@ -110,6 +119,12 @@ pub enum Use {
         walker: DeviceId,
         cached_since: Option<u64>,
     },
+    /// A table that walks read which begin at a cached pointer: of the first device of which a context has its address space, if
+    /// one has it.
+    PointedTable {
+        walker: Option<DeviceId>,
+        since: u64,
+    },
 }
 
 impl fmt::Display for Use {
@@ -132,6 +147,17 @@ impl fmt::Display for Use {
                 f,
                 "walks of {walker:06x} read it as a table, by the context cached since line {line}"
             ),
+            Use::PointedTable {
+                walker: Some(walker),
+                since,
+            } => write!(
+                f,
+                "walks of {walker:06x} read it as a table, by a pointer cached since line {since}"
+            ),
+            Use::PointedTable {
+                walker: None,
+                since,
+            } => write!(f, "it is a table, by a pointer cached since line {since}"),
         }
     }
 }

@@ -1,11 +1,13 @@
 // How the hardware uses a frame.
 use crate::chronicle::Chronicle;
 use crate::directory::path_reads;
-use crate::found::{context_at, has_directory, mode_of, tables_of};
+use crate::found::{Contexts, context_at, has_directory, mode_of, tables_of};
+use crate::pointers::tables_at;
 use crate::queues::{has_waiting, has_word, is_of_commands, is_of_faults};
 use crate::reply::{ContextPlace, ReadAs, Use};
 use iom_base::DeviceId;
 use iom_board::Board;
+use iom_tlb::Space;
 
 /// Whether walks by the device's context in that place read the frame as a table.
 fn walks_read(hardware: &Board, device: DeviceId, place: ContextPlace, frame: u32) -> bool {
@@ -34,6 +36,16 @@ fn is_of_directory(hardware: &Board, frame: u32) -> bool {
     false
 }
 
+/// The first device of which a context has the address space.
+fn first_in(hardware: &Board, space: Space) -> Option<DeviceId> {
+    for device in hardware.devices.iter() {
+        if Contexts::of(hardware, device.id).are_in(space) {
+            return Some(device.id);
+        }
+    }
+    None
+}
+
 impl Chronicle {
     /// How the hardware uses the frame, the first that applies: a queue that is on, or the word of a fence that waits; the
     /// directory, its root or a page on the path of a plugged device; a table that walks of a plugged device read.
@@ -57,8 +69,15 @@ impl Chronicle {
     /// As what the hardware reads the frame and relies on what it finds: the first that applies of a table, the directory, and
     /// commands that wait.
     pub fn read_as(&self, hardware: &Board, frame: u32) -> Option<ReadAs> {
-        if let Some(Use::Table { walker, .. }) = self.table_use(hardware, frame) {
-            return Some(ReadAs::Table { walker });
+        match self.table_use(hardware, frame) {
+            Some(
+                Use::Table { walker, .. }
+                | Use::PointedTable {
+                    walker: Some(walker),
+                    ..
+                },
+            ) => return Some(ReadAs::Table { walker }),
+            _ => {}
         }
         if is_of_directory(hardware, frame) {
             return Some(ReadAs::Directory);
@@ -88,6 +107,19 @@ impl Chronicle {
                 return Some(Use::Table {
                     walker,
                     cached_since: Some(since),
+                });
+            }
+        }
+        self.pointed_use(hardware, frame)
+    }
+
+    /// The same by a cached pointer.
+    fn pointed_use(&self, hardware: &Board, frame: u32) -> Option<Use> {
+        for own in self.pointers.kept.iter() {
+            if tables_at(&own.what).read(&hardware.memory, frame) {
+                return Some(Use::PointedTable {
+                    walker: first_in(hardware, own.what.space),
+                    since: own.line,
                 });
             }
         }

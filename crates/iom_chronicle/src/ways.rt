@@ -6,6 +6,7 @@ use crate::found::{
     Contexts, context_at, forges, has_cache, lets_ats, mode_of, space_of, tables_of,
 };
 use crate::levels::Target;
+use crate::pointers::tables_at;
 use crate::reply::{ContextPlace, WayFound};
 use crate::sent::{Said, Sent, sent_at};
 use iom_base::{AccessKind, DeviceId, ENTRY_SIZE, MAX_IN_FLIGHT};
@@ -55,6 +56,9 @@ impl Chronicle {
             return Some(way);
         }
         if let Some(way) = self.entry_way(hardware, device, &contexts, target) {
+            return Some(way);
+        }
+        if let Some(way) = self.pointer_way(hardware, &contexts, target) {
             return Some(way);
         }
         self.open_way(hardware, device, &contexts)
@@ -182,6 +186,24 @@ impl Chronicle {
                     address,
                     since,
                 });
+            }
+        }
+        None
+    }
+
+    /// An entry to which a walk leads that begins at a cached pointer, in the address space of one of these contexts.
+    fn pointer_way(
+        &self,
+        hardware: &Board,
+        contexts: &Contexts,
+        target: Target,
+    ) -> Option<WayFound> {
+        for own in self.pointers.kept.iter() {
+            if contexts.are_in(own.what.space) {
+                if let Some(address) = tables_at(&own.what).leaf_to(&hardware.memory, target) {
+                    let since = own.line.max(self.words.at(address));
+                    return Some(WayFound::PointedEntry { address, since });
+                }
             }
         }
         None

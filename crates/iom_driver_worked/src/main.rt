@@ -3,15 +3,16 @@
 //!
 //! `data/drivers` has each script with its answers: correct drivers, drivers with one mistake each, scripts in which
 //! something is certain only as long as nobody but the driver writes what hardware reads, some in which a block device
-//! serves its queue, some in which each load of a walk is an event of its own, some in which hardware acts by itself, and the model's own driver as lines of hardware. A script's own text is run as
-//! `iommu-hw` runs it.
+//! serves its queue, some in which each load of a walk is an event of its own, some in which hardware caches pointers to tables, some in which
+//! hardware acts by itself, and the model's own driver as lines of hardware. A script's own text is run as `iommu-hw` runs
+//! it.
 #![tactic(auto)]
 
 use iom_hardware_runner::run;
 use std::{fs, io};
 
 /// The scripts of `data/drivers`. A new one is its two files and a line here.
-static DRIVERS: [&str; 61] = [
+static DRIVERS: [&str; 67] = [
     "correct-first",
     "correct-second",
     "correct-ats",
@@ -60,6 +61,12 @@ static DRIVERS: [&str; 61] = [
     "table-freed-in-walk",
     "stepped-begun-anew",
     "stepped-block-no-drain",
+    "pointer-table-freed",
+    "pointer-dropped",
+    "pointer-second-stage",
+    "pointer-ats",
+    "pointer-reused-number",
+    "pointer-replaced-table",
     "auto-correct-first",
     "auto-correct-ats",
     "auto-fence-first",

@@ -23,6 +23,7 @@ use Rattle.iom_hardware_script.specs.declared.script.Setup.{Setup}
 use Rattle.iom_machine.specs.declared.event.Event.TheVariants.{Fetch}
 use Rattle.iom_hardware_runner.proofs.PaceLemmas.{pace_stays}
 use Rattle.iom_hardware_session.proofs.SessionLemmas.{through_more}
+use Rattle.iom_hardware_session.specs.Shown.{walks_in}
 use Rattle.iom_hardware_session.specs.Runs.{LineReply, claimed_then, LineGoesOn, GoThrough, is_wrong_by, is_wrong, is_any_reply_wrong, IsSessionAtPowerOn}
 use Rattle.iom_hardware_session.specs.declared.watched.Watched.{Watched}
 use Rattle.iom_iommu.specs.Parts.{registers_of}
@@ -318,7 +319,7 @@ came_by_nothing setup machine session begins sessions wrongs off none_asks =
 -- ON THE WAY TO REST
 
 -- it rests where it is still and no command waits
-pub rests_now : (old new : Teller) → new ≡ old → IsStill old.session.hardware.board old.session.walks → command_waits old.session.hardware.board ≡ false → RestsNow old new
+pub rests_now : (old new : Teller) → new ≡ old → IsStill old.session.hardware.board (walks_in old.session.beside) → command_waits old.session.hardware.board ≡ false → RestsNow old new
 rests_now old new same still none before shows = (
   [],
   before,
@@ -327,7 +328,7 @@ rests_now old new same still none before shows = (
 )
 
 -- or where it is still, and a command was tried and not taken
-pub rests_stuck : (old new : Teller) (tried : HardwareLine) → TellsLine old tried new → tried ≡ line.Event Fetch → IsStill new.session.hardware.board new.session.walks
+pub rests_stuck : (old new : Teller) (tried : HardwareLine) → TellsLine old tried new → tried ≡ line.Event Fetch → IsStill new.session.hardware.board (walks_in new.session.beside)
     → command_head (registers_of new.session.hardware.board.iommu) ≡ command_head (registers_of old.session.hardware.board.iommu) → RestsNow old new
 rests_stuck old new tried tells is still same before shows =
     let (reply, said, goes, wrong) = tells before shows in (

@@ -15,6 +15,7 @@ use Rattle.iom_hardware_script.specs.declared.script.Help.TheVariants as help
 use Rattle.iom_hardware_script.specs.declared.script.Setup.{Setup}
 use Rattle.iom_hardware_script.specs.Grammar.{IsSetupLine, IsHardwareLine, SayHardware}
 use Rattle.iom_hardware_session.specs.Runs.{LineReply, LineGoesOn, GoThrough, claimed_then, is_wrong, is_any_reply_wrong, IsSessionAtPowerOn}
+use Rattle.iom_hardware_session.specs.Shown.{walks_in}
 use Rattle.iom_hardware_session.specs.declared.state.Session.{Session}
 use Rattle.iom_inflight.specs.Flights.{first_busy}
 use Rattle.iom_iommu.specs.Parts.{flights_of, registers_of}
@@ -35,7 +36,7 @@ asks_in rows device page = list_any (is_at device page) rows
 
 -- a walk of the session's hardware takes several events
 abbrev pub is_stepped : Session → Bool
-is_stepped session = is_some session.walks
+is_stepped session = is_some (walks_in session.beside)
 
 -- hardware or a device does this by itself: a command is taken, an access made, a message delivered, the next load of a walk made, a block device takes a step,
 -- or a device asks for something at a page where it may
@@ -125,7 +126,7 @@ command_waits hardware = is_processing_commands (registers_of hardware.iommu) &&
 -- HARDWARE RESTS: it is still, and no command waits; or one was tried last, and wasn't taken
 abbrev pub RestsBehind : Session → (last : List HardwareLine) → Session → Type 0
 RestsBehind old last new =
-    IsStill new.hardware.board new.walks
+    IsStill new.hardware.board (walks_in new.beside)
     × (((last ≡ []) × (command_waits new.hardware.board ≡ false))
     ⊎ ((last ≡ line.Event Fetch ∷ []) × (command_head (registers_of new.hardware.board.iommu) ≡ command_head (registers_of old.hardware.board.iommu))))
 

@@ -1,5 +1,6 @@
 // Hardware under a driver: each line happens and is answered, and between two lines hardware may act by itself.
 ghost use Rattle.std.specs.Prelude.{◌≡◌, ◌↔◌, ◌&&◌, ◌++◌, ◌∷◌, [], ℕ, IsTrue, List, None, true, false, not, IfOk, IfErr, OnOk, IfSome};
+ghost use Rattle.iom_hardware_session.specs.Shown.{walks_in};
 ghost use Rattle.iom_hardware_runner.specs.Parts.{is_off, StaysOff, does_itself, KeepsTraffic, TellsLine, Does, Rests, SettlesSo, AreFew, CameBy, MachineTakesLine, NamesNone};
 ghost use Rattle.iom_hardware_runner.specs.Runs.{is_of_software, is_help, AreDrawn, Directs, IsStill};
 ghost use Rattle.iom_hardware_script.specs.declared.script.HardwareLine.{HardwareLine as Line};
@@ -322,7 +323,7 @@ impl Machine {
 
     /// Whether hardware is still, and the head of the command queue is where it was.
     fn is_stuck(&self, head: u32) -> bool
-        ensures { IsTrue result ↔ (IsStill self.now.teller.session.hardware.board self.now.teller.session.walks × (command_head (registers_of self.now.teller.session.hardware.board.iommu) ≡ head)) }
+        ensures { IsTrue result ↔ (IsStill self.now.teller.session.hardware.board (walks_in self.now.teller.session.beside) × (command_head (registers_of self.now.teller.session.hardware.board.iommu) ≡ head)) }
     {
         let session = &self.teller.session;
         is_still(session) && session.hardware().iommu.registers().command_head() == head

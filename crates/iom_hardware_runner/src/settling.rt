@@ -1,5 +1,6 @@
 // How hardware comes to rest: what it does next on the way, and when it rests.
 ghost use Rattle.std.specs.Prelude.{◌≡◌, ◌↔◌, IsTrue, true, false, IfSome, IfNone};
+ghost use Rattle.iom_hardware_session.specs.Shown.{walks_in};
 ghost use Rattle.iom_hardware_runner.specs.Runs.{IsStill, brings_to_rest, command_waits, is_stepped};
 ghost use Rattle.iom_hardware_script.specs.declared.script.HardwareLine.TheVariants as says;
 ghost use Rattle.iom_machine.specs.declared.event.Event.TheVariants as events;
@@ -20,7 +21,7 @@ pub(crate) fn can_fetch(hardware: &Board) -> bool
 
 /// Whether no access is in flight, no message under way, and no request of a device.
 pub(crate) fn is_still(session: &Session) -> bool
-    ensures { IsTrue result ↔ IsStill session.now.hardware.board session.now.walks }
+    ensures { IsTrue result ↔ IsStill session.now.hardware.board (walks_in session.now.beside) }
 {
     let hardware = session.hardware();
     hardware.first_busy().is_none()
@@ -39,7 +40,7 @@ pub(crate) fn is_fetch(line: &HardwareLine) -> bool
 /// a command taken. None where there is nothing left to do.
 pub(crate) fn settling_step(session: &Session) -> Option<HardwareLine>
     ensures some { IfSome result (λ step. brings_to_rest (is_stepped session.now) step ≡ true) }
-    ensures none { IfNone result (IsStill session.now.hardware.board session.now.walks × (command_waits session.now.hardware.board ≡ false)) }
+    ensures none { IfNone result (IsStill session.now.hardware.board (walks_in session.now.beside) × (command_waits session.now.hardware.board ≡ false)) }
 {
     let hardware = session.hardware();
     if let Some(device) = hardware.first_busy() {

@@ -207,6 +207,16 @@ impl Teller {
         self.chronicle.made(made.device)
     }
 
+    /// What is new of all that hardware keeps is since this line.
+    fn notice(&mut self)
+        ensures { KeepsSession self.old self.new }
+    {
+        self.chronicle.notice(self.session.hardware());
+        if let Some(pointers) = self.session.pointers() {
+            self.chronicle.notice_pointers(pointers.as_slice());
+        }
+    }
+
     /// What is remembered of a line of hardware, devices or the processor. What let the access through, where one was made.
     fn remember_event(
         &mut self,
@@ -237,7 +247,7 @@ impl Teller {
             Answer::Stored(Ok(())) => self.remember_store(event),
             _ => {}
         }
-        self.chronicle.notice(self.session.hardware());
+        self.notice();
         Ok(origin)
     }
 
@@ -250,7 +260,7 @@ impl Teller {
             // Of a walk the line is kept alone, and not the address.
             self.chronicle.accepted(hardware, device, 0, Entrance::Walk);
         }
-        self.chronicle.notice(hardware);
+        self.notice();
     }
 
     fn remember_store(&mut self, event: &Event)

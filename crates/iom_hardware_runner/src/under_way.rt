@@ -1,5 +1,6 @@
 // The requests of devices that are under way, where each load of a walk is an event of its own.
 ghost use Rattle.std.specs.Prelude.{◌≡◌, ◌↔◌, None, true, IfSome};
+ghost use Rattle.iom_hardware_session.specs.Shown.{walks_in};
 ghost use Rattle.iom_hardware_runner.specs.Parts.{first_walking};
 ghost use Rattle.iom_hardware_runner.specs.Runs.{NoneUnderWay, is_stepped};
 
@@ -21,7 +22,7 @@ fn first_walking_of(devices: &[Device], walks: &Walks) -> Option<DeviceId>
 
 /// The first device, in the order of plugging, whose request is under way. None has one where a walk is one event.
 pub(crate) fn first_walking(session: &Session) -> Option<DeviceId>
-    ensures none { (result ≡ None) ↔ NoneUnderWay session.now.hardware.board.devices.items session.now.walks }
+    ensures none { (result ≡ None) ↔ NoneUnderWay session.now.hardware.board.devices.items (walks_in session.now.beside) }
     ensures some { IfSome result (λ device. is_stepped session.now ≡ true) }
 {
     match session.walks() {

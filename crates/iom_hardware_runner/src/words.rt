@@ -124,6 +124,12 @@ fn not_ready(
             let since = chronicle.cached_since(space, page).unwrap_or(0);
             format!(in alloc; "on frame {frame} by the translation cached since line {since}")
         }
+        Found::Pointed { space, frame } => {
+            let since = chronicle.pointed_since(space, page).unwrap_or(0);
+            format!(in alloc;
+                "on frame {frame} by a walk from the pointer cached since line {since}"
+            )
+        }
     }
 }
 

@@ -1,39 +1,87 @@
 -- A line says which hardware there is by its one number, and by the word behind that where there is one.
-use Rattle.std.proofs.Common.{◌≡◌, ℕ, List, ◌++◌, Some, None, codes, ap, sym, subst, refl, ◌∙◌}
+use Rattle.std.proofs.Common.{◌≡◌, ℕ, ◌⊎◌, inl, inr, List, [], ◌++◌, Some, None, codes, ap, sym, subst, refl, ◌∙◌}
 use Rattle.std.proofs.lemmas.List.{append_cancel_left}
 use Rattle.iom_script.specs.Words.{◌␣◌, IsNumber}
 use Rattle.iom_script.specs.Reading.{Reads}
 use Rattle.iom_script.proofs.ReadsLemmas.{reads_some, reads_none, read_holds, read_only, read_nothing}
-use Rattle.iom_script.proofs.CutLemmas.{cut_is_one, cut_has_separator}
+use Rattle.iom_script.proofs.CutLemmas.{cut_has_separator}
 use Rattle.iom_script.proofs.DecimalLemmas.{number_without_space}
-use Rattle.iom_script.proofs.FieldLemmas.{FirstOf}
-use Rattle.iom_script.proofs.SameLemmas.{number_same}
+use Rattle.iom_script.proofs.FieldLemmas.{Followed}
+use Rattle.iom_script.proofs.EventLemmas.{never_both}
+use Rattle.iom_script.proofs.SameLemmas.{SaysOne, number_same, followed_same}
 use Rattle.iom_hardware_script.specs.declared.script.Pace.{Pace}
-use Rattle.iom_hardware_script.specs.declared.script.Pace.TheVariants.{Whole, Stepped}
+use Rattle.iom_hardware_script.specs.declared.script.Pace.TheVariants.{Whole, Stepped, Pointed}
 use Rattle.iom_hardware_script.specs.declared.script.Setup.{Setup}
 use Rattle.iom_hardware_script.specs.Grammar.{setup_words, IsFrameCount, IsSetupLine}
-use Rattle.iom_hardware_script.specs.Parts.{paced_words, IsSizeAndPace}
+use Rattle.iom_hardware_script.specs.Parts.{paced_words, IsPaceWord, IsSizeAndPace}
 
 -- the number and the pace, as one fact of a pair
 abbrev pub SaidOf : List ℕ → ℕ × Pace → Type 0
 SaidOf words said = IsSizeAndPace words said.0 said.1
 
--- two numbers with one pace
-same_size : (m n : ℕ) (pace : Pace) → m ≡ n → let a : ℕ × Pace = (m, pace) in let b : ℕ × Pace = (n, pace) in a ≡ b
-same_size m n pace same = ap (λ (k : ℕ). let p : ℕ × Pace = (k, pace) in p) same
+-- a word names one pace
+pace_same : SaysOne IsPaceWord
+pace_same word Whole b p q = absurd p
+pace_same word a Whole p q = absurd q
+pace_same word Stepped Stepped p q = refl
+pace_same word Pointed Pointed p q = refl
+pace_same word Stepped Pointed p q = absurd (never_both (codes "stepped") (codes "nonleaf") [] [] refl (sym p ∙ q))
+pace_same word Pointed Stepped p q = absurd (never_both (codes "nonleaf") (codes "stepped") [] [] refl (sym p ∙ q))
+
+-- a word that names a pace is read so
+named : (word : List ℕ) (pace : Pace) → IsPaceWord word pace → Reads (Some pace) (IsPaceWord word)
+named word pace is = reads_some (IsPaceWord word) pace is (λ other q. pace_same word pace other is q)
+
+pub stepped_named : (word : List ℕ) → word ≡ codes "stepped" → Reads (Some Stepped) (IsPaceWord word)
+stepped_named word is = named word Stepped is
+
+pub nonleaf_named : (word : List ℕ) → word ≡ codes "nonleaf" → Reads (Some Pointed) (IsPaceWord word)
+nonleaf_named word is = named word Pointed is
+
+-- any other word names no pace
+pub none_named : (word : List ℕ) → (word ≡ codes "stepped" → ⊥) → (word ≡ codes "nonleaf" → ⊥) → Reads None (IsPaceWord word)
+none_named word not_stepped not_nonleaf = reads_none (IsPaceWord word) nothing
+  where
+    nothing : (pace : Pace) → IsPaceWord word pace → ⊥
+    nothing Whole q = q
+    nothing Stepped q = not_stepped q
+    nothing Pointed q = not_nonleaf q
+
+-- a number with the word of its pace behind it
+abbrev Paced : List ℕ → ℕ × Pace → Type 0
+Paced words said = Followed IsNumber IsPaceWord words said
+
+-- words say a number and a pace as a number alone, or as one with the word of its pace behind it
+alone_or_paced : (words : List ℕ) (said : ℕ × Pace) → SaidOf words said → (IsNumber words said.0 × (Whole ≡ said.1)) ⊎ Paced words said
+alone_or_paced words (n, Whole) q = inl (subst (λ t. IsNumber t n) (sym q.2) q.1, refl)
+alone_or_paced words (n, Stepped) q = inr (codes "stepped", (q.0, q.1, q.2), refl)
+alone_or_paced words (n, Pointed) q = inr (codes "nonleaf", (q.0, q.1, q.2), refl)
+
+-- such a number says both
+paced_said : (words : List ℕ) (said : ℕ × Pace) → Paced words said → SaidOf words said
+paced_said words (n, Whole) q = absurd q.2
+paced_said words (n, Stepped) q = (q.1.0, q.1.1, q.1.2 ∙ ap (λ t. q.1.0 ␣ t) q.2)
+paced_said words (n, Pointed) q = (q.1.0, q.1.1, q.1.2 ∙ ap (λ t. q.1.0 ␣ t) q.2)
 
 -- a number alone has no word behind it
-not_both : (words : List ℕ) (m n : ℕ) → IsSizeAndPace words m Whole → IsSizeAndPace words n Stepped → ⊥
-not_both words m n p q = cut_has_separator 32 words q.0 (codes "stepped") (number_without_space words m (subst (λ t. IsNumber t m) (sym p.2) p.1)) q.2
+not_both : (words : List ℕ) (m : ℕ) (said : ℕ × Pace) → IsNumber words m → Paced words said → ⊥
+not_both words m said p q = cut_has_separator 32 words q.1.0 q.0 (number_without_space words m p) q.1.2
 
 -- words say one number and one pace
 said_same : (words : List ℕ) (a b : ℕ × Pace) → SaidOf words a → SaidOf words b → a ≡ b
-said_same words (m, Whole) (n, Whole) p q = same_size m n Whole (number_same p.0 m n p.1 (subst (λ t. IsNumber t n) (sym q.2 ∙ p.2) q.1))
-said_same words (m, Whole) (n, Stepped) p q = absurd (not_both words m n p q)
-said_same words (m, Stepped) (n, Whole) p q = absurd (not_both words n m q p)
-said_same words (m, Stepped) (n, Stepped) p q =
-    let same = cut_is_one 32 p.0 q.0 (codes "stepped") (codes "stepped") (number_without_space p.0 m p.1) (number_without_space q.0 n q.1) (sym p.2 ∙ q.2) in
-    same_size m n Stepped (number_same p.0 m n p.1 (subst (λ t. IsNumber t n) (sym same.0) q.1))
+said_same words a b p q = elim (alone_or_paced words a p) [
+  | inl alone ↦ elim (alone_or_paced words b q) [
+    | inl other ↦ pair_same a.0 b.0 a.1 b.1 (number_same words a.0 b.0 alone.0 other.0) (sym alone.1 ∙ other.1)
+    | inr other ↦ absurd (not_both words a.0 b alone.0 other)
+  ]
+  | inr paced ↦ elim (alone_or_paced words b q) [
+    | inl other ↦ absurd (not_both words b.0 a other.0 paced)
+    | inr other ↦ followed_same IsNumber IsPaceWord number_without_space number_same pace_same words a b paced other
+  ]
+]
+  where
+    pair_same : (m n : ℕ) (v w : Pace) → m ≡ n → v ≡ w → let x : ℕ × Pace = (m, v) in let y : ℕ × Pace = (n, w) in x ≡ y
+    pair_same m n v w e f = cc
 
 -- words that say a number and a pace are read so
 said_read : (words : List ℕ) (said : ℕ × Pace) → SaidOf words said → Reads (Some said) (SaidOf words)
@@ -45,34 +93,18 @@ size_alone words size number =
     let here : ℕ × Pace = (size, Whole) in
     said_read words here (words, read_holds (IsNumber words) size number, refl)
 
--- a number with its pace behind it
-pub size_stepped : (words rest : List ℕ) (size : ℕ) → Reads {X = ℕ × List ℕ} (Some (size, rest)) (FirstOf IsNumber words) → rest ≡ codes "stepped"
-    → Reads {X = ℕ × Pace} (Some (size, Stepped)) (SaidOf words)
-size_stepped words rest size first named =
-    let found : ℕ × List ℕ = (size, rest) in
-    let here : ℕ × Pace = (size, Stepped) in
-    let q = read_holds (FirstOf IsNumber words) found first in
-    said_read words here (q.0, q.1, q.2 ∙ ap (λ r. q.0 ␣ r) named)
+-- a number with the word of its pace behind it
+pub size_paced : (words : List ℕ) (size : ℕ) (pace : Pace) → Reads {X = ℕ × Pace} (Some (size, pace)) (Paced words) → Reads {X = ℕ × Pace} (Some (size, pace)) (SaidOf words)
+size_paced words size pace paced =
+    let here : ℕ × Pace = (size, pace) in
+    said_read words here (paced_said words here (read_holds (Paced words) here paced))
 
--- neither a number alone, nor one before other words
-pub no_size : (words : List ℕ) → Reads None (IsNumber words) → Reads None (FirstOf IsNumber words) → Reads None (SaidOf words)
-no_size words alone first = reads_none (SaidOf words) nothing
-  where
-    nothing : (said : ℕ × Pace) → SaidOf words said → ⊥
-    nothing (n, Whole) q = read_nothing (IsNumber words) n alone (subst (λ t. IsNumber t n) (sym q.2) q.1)
-    nothing (n, Stepped) q = let found : ℕ × List ℕ = (n, codes "stepped") in read_nothing (FirstOf IsNumber words) found first q
-
--- a number before words that name no pace
-pub no_pace : (words rest : List ℕ) (size : ℕ) → Reads None (IsNumber words) → Reads {X = ℕ × List ℕ} (Some (size, rest)) (FirstOf IsNumber words)
-    → (rest ≡ codes "stepped" → ⊥) → Reads None (SaidOf words)
-no_pace words rest size alone first other = reads_none (SaidOf words) nothing
-  where
-    nothing : (said : ℕ × Pace) → SaidOf words said → ⊥
-    nothing (n, Whole) q = read_nothing (IsNumber words) n alone (subst (λ t. IsNumber t n) (sym q.2) q.1)
-    nothing (n, Stepped) q =
-        let here : ℕ × List ℕ = (size, rest) in
-        let found : ℕ × List ℕ = (n, codes "stepped") in
-        other (ap (λ (p : ℕ × List ℕ). p.1) (read_only (FirstOf IsNumber words) here found first q))
+-- neither a number alone, nor one before the word of a pace
+pub no_size : (words : List ℕ) → Reads None (IsNumber words) → Reads None (Paced words) → Reads None (SaidOf words)
+no_size words unread unpaced = reads_none (SaidOf words) (λ said q. elim (alone_or_paced words said q) [
+  | inl alone ↦ read_nothing (IsNumber words) said.0 unread alone.0
+  | inr paced ↦ read_nothing (Paced words) said unpaced paced
+])
 
 -- what stands behind the first word
 abbrev Behind : List ℕ → List ℕ → Type 0
@@ -82,6 +114,7 @@ Behind line rest = Reads (Some rest) (λ more. line ≡ codes "hardware " ++ mor
 words_behind : (pace : Pace) (f : List ℕ) → setup_words pace f ≡ codes "hardware " ++ paced_words pace f
 words_behind Whole f = refl
 words_behind Stepped f = refl
+words_behind Pointed f = refl
 
 -- the number and the pace of hardware
 abbrev said_of : Setup → ℕ × Pace

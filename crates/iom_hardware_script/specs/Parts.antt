@@ -7,7 +7,7 @@ use Rattle.iom_hardware_script.specs.declared.script.Help.TheVariants as helps
 use Rattle.iom_hardware_script.specs.declared.script.HardwareLine.{HardwareLine}
 use Rattle.iom_hardware_script.specs.declared.script.HardwareLine.TheVariants as says
 use Rattle.iom_hardware_script.specs.declared.script.Pace.{Pace}
-use Rattle.iom_hardware_script.specs.declared.script.Pace.TheVariants.{Whole, Stepped}
+use Rattle.iom_hardware_script.specs.declared.script.Pace.TheVariants.{Whole, Stepped, Pointed}
 use Rattle.iom_script.specs.Words.{◌␣◌, IsNumber}
 use Rattle.iom_hardware_script.specs.Grammar.{IsClaim, IsHelp, IsHardwareLine}
 
@@ -96,10 +96,17 @@ IsLoadLine line said = IsLoad said × IsHardwareLine line said
 abbrev pub IsSoftwareLine : List ℕ → HardwareLine → Type 0
 IsSoftwareLine line said = IsOfSoftware said × IsHardwareLine line said
 
+-- the word names the pace: no word names that of whole walks from the root
+abbrev pub IsPaceWord : List ℕ → Pace → Type 0
+IsPaceWord word Whole = ⊥
+IsPaceWord word Stepped = word ≡ codes "stepped"
+IsPaceWord word Pointed = word ≡ codes "nonleaf"
+
 -- what stands behind `hardware`: the word of a number, and that of the pace where it is named
 abbrev pub paced_words : Pace → List ℕ → List ℕ
 paced_words Whole f = f
 paced_words Stepped f = f ␣ codes "stepped"
+paced_words Pointed f = f ␣ codes "nonleaf"
 
 -- the words behind `hardware` say the number and the pace
 abbrev pub IsSizeAndPace : List ℕ → ℕ → Pace → Type 0

@@ -2,7 +2,7 @@
 ghost use Rattle.std.specs.Prelude.{◌↔◌, IsTrue};
 ghost use Rattle.iom_script.specs.Reading.{Reads};
 ghost use Rattle.iom_hardware_script.specs.Grammar.{IsFrameCount, IsSetupLine};
-ghost use Rattle.iom_hardware_script.specs.Parts.{IsSizeAndPace};
+ghost use Rattle.iom_hardware_script.specs.Parts.{IsPaceWord, IsSizeAndPace};
 
 use crate::script::{Pace, Setup};
 use iom_script::words::{after, is_word, number_and, number_of};
@@ -20,6 +20,19 @@ fn is_frame_count(frames: u64) -> bool
     (FEWEST_FRAMES..=MOST_FRAMES).contains(&frames)
 }
 
+/// The pace that a word names.
+fn pace_of(word: &[u8]) -> Option<Pace>
+    ensures { Reads result (IsPaceWord word.now) }
+{
+    if is_word(word, b"stepped") {
+        return Some(Pace::Stepped);
+    }
+    if is_word(word, b"nonleaf") {
+        return Some(Pace::Pointed);
+    }
+    None
+}
+
 /// The number and the pace that the words behind `hardware` say, whether or not a memory can have so many frames.
 fn size_and_pace(words: &[u8]) -> Option<(u64, Pace)>
     ensures { Reads result (λ said. IsSizeAndPace words.now said.0 said.1) }
@@ -28,10 +41,8 @@ fn size_and_pace(words: &[u8]) -> Option<(u64, Pace)>
         return Some((size, Pace::Whole));
     }
     let (size, rest) = number_and(words)?;
-    if !is_word(rest, b"stepped") {
-        return None;
-    }
-    Some((size, Pace::Stepped))
+    let pace = pace_of(rest)?;
+    Some((size, pace))
 }
 
 /// The hardware that a line says.

@@ -2,11 +2,12 @@
 //! world has.
 //!
 //! A script is text. Each line ends with a line feed; an empty line and one that begins with `#` say nothing; the
-//! first other line says how much memory the hardware has, and whether each load of a walk is an event of its own; each
-//! one after it says one thing that hardware, a device or software does, or asks hardware to act by itself. What devices
-//! and hardware do is said as in a script of a world (`iom_script`), but for the next load of a walk, which stands in
-//! this language alone; software reads and writes the registers of the RISC-V IOMMU Architecture Specification
-//! (chapter 5, "Memory-mapped register interface") by their offsets, and claims what its devices may reach.
+//! first other line says how much memory the hardware has, and whether each load of a walk is an event of its own, or
+//! pointers to tables are cached too; each one after it says one thing that hardware, a device or software does, or asks
+//! hardware to act by itself. What devices and hardware do is said as in a script of a world (`iom_script`), but for the
+//! next load of a walk, which stands in this language alone; software reads and writes the registers of the RISC-V IOMMU
+//! Architecture Specification (chapter 5, "Memory-mapped register interface") by their offsets, and claims what its
+//! devices may reach.
 //! `specs/Grammar.antt` is the grammar, as a relation between bytes and what they say, apart from the parser;
 //! `specs/Answers.antt` is the text of the answers.
 //!

@@ -56,13 +56,15 @@ pub enum Help {
     Quiesce,
 }
 
-/// How many events a walk takes.
+/// How many events a walk takes, and where it may begin.
 #[derive(Clone, Copy, PartialEq, Eq)]
 pub enum Pace {
     /// All loads of a walk are made in one event.
     Whole,
     /// Each load of a walk is an event of its own.
     Stepped,
+    /// A walk is one event, and may begin at a table that a cached non-leaf entry names.
+    Pointed,
 }
 
 /// The hardware that a script begins with.

@@ -32,7 +32,16 @@ const BAD_FIRST: &[u8] = b"\
     |#\nhardware stepped\n\
     |#\nhardware stepped 64\n\
     |#\nhardware 64 stepped\
-    |#\nhardware 64 nonleaf\n\
+    |#\nhardware 64 nonleaf\
+    |#\nhardware 64 nonleafy\n\
+    |#\nhardware 64 Nonleaf\n\
+    |#\nhardware 64 nonleaf \n\
+    |#\nhardware 64  nonleaf\n\
+    |#\nhardware 64 stepped nonleaf\n\
+    |#\nhardware 64 nonleaf stepped\n\
+    |#\nhardware 63 nonleaf\n\
+    |#\nhardware 4097 nonleaf\n\
+    |#\nhardware nonleaf\n\
     |#\nhardware 64 1\n\
     |#\nhardware 64\
     |#\nHardware 64\n\
@@ -57,8 +66,13 @@ fn first_lines_say_hardware(rt: HostRuntime) {
     expect(&rt, is_hardware(smallest, 64, Pace::Stepped));
     let largest = setup_of(b"hardware 4096 stepped");
     expect(&rt, is_hardware(largest, 4096, Pace::Stepped));
+    let smallest = setup_of(b"hardware 64 nonleaf");
+    expect(&rt, is_hardware(smallest, 64, Pace::Pointed));
+    let largest = setup_of(b"hardware 4096 nonleaf");
+    expect(&rt, is_hardware(largest, 4096, Pace::Pointed));
     expect(&rt, setup_of(b"hardware 4097").is_none());
     expect(&rt, setup_of(b"hardware 4097 stepped").is_none());
+    expect(&rt, setup_of(b"hardware 4097 nonleaf").is_none());
 }
 
 /// Second lines that aren't in the grammar: those of our driver and of settling, and lines of each

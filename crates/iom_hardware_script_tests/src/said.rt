@@ -289,3 +289,17 @@ fn a_script_may_be_stepped(rt: HostRuntime) {
         expect(&rt, told_of(&said.line).0 == *name);
     }
 }
+
+// The same, where pointers to tables are cached: a `load` is in the grammar there too.
+#[test]
+fn a_script_may_cache_pointers(rt: HostRuntime) {
+    let bytes =
+        b"# pointers to tables are cached\nhardware 64 nonleaf\nread 000001 0x3000 4\nload 000001\n";
+    let script = script_of(&rt, rt.alloc(), bytes);
+    expect(&rt, is_hardware(script.setup, 64, Pace::Pointed));
+    let lines = script.lines.as_slice();
+    expect(&rt, lines.len() == 2);
+    for (said, name) in lines.iter().zip(["read", "load"].iter()) {
+        expect(&rt, told_of(&said.line).0 == *name);
+    }
+}

@@ -6,6 +6,7 @@ use Rattle.iom_base.specs.Tables.{access_fault_of}
 use Rattle.iom_base.specs.declared.access.AccessKind.{AccessKind}
 use Rattle.iom_base.specs.declared.cause.Cause.{Cause}
 use Rattle.iom_base.specs.declared.cause.Cause.TheVariants.{AllInboundDisallowed, TransactionTypeDisallowed}
+use Rattle.iom_base.specs.declared.rights.Rights.{Rights}
 use Rattle.iom_base.specs.declared.size.Size.{Size}
 use Rattle.iom_base.specs.declared.size.Size.TheVariants.{Sv39, Sv48}
 use Rattle.iom_board.specs.BoardParts.{BoardParts, board_parts}
@@ -17,13 +18,14 @@ use Rattle.iom_device_dir.specs.declared.stages.FirstStage.{FirstStage}
 use Rattle.iom_device_dir.specs.declared.stages.FirstStage.TheVariants as first
 use Rattle.iom_device_dir.specs.declared.stages.SecondStage.{SecondStage}
 use Rattle.iom_device_dir.specs.declared.stages.SecondStage.TheVariants as second
-use Rattle.iom_hardware_session.specs.Accepted.{frame_answered, HasOneStage, IsOneStage, ReadyIsAccepted, UnreadyIsNotAccepted}
+use Rattle.iom_hardware_session.specs.Accepted.{frame_answered, AnswersAre, HasOneStage, IsOneStage, ReadyIsAccepted, UnreadyIsNotAccepted}
 use Rattle.iom_hardware_session.specs.Found.{frame_found}
-use Rattle.iom_hardware_session.specs.Ready.{address_of, cached_or, looked_space, ContextFinds, FindsFrame, LookFinds, ModeFinds, RequestFinds, SpaceFinds, StagesFind, WalkFinds}
+use Rattle.iom_hardware_session.specs.Ready.{address_of, looked_space, ContextFinds, FindsFrame, LookFinds, ModeFinds, RequestFinds, SpaceFinds, StagesFind, WalkFinds}
 use Rattle.iom_hardware_session.specs.declared.answer.Found.{Found}
 use Rattle.iom_hardware_session.specs.declared.answer.Found.TheVariants.{NoContext, Walk}
 use Rattle.iom_iommu.specs.Parts.{contexts_of, registers_of, translations_of}
 use Rattle.iom_iommu.specs.Service.{cached_for, found_context, own_page, LooksOrWalks, ServesBy, ServesIn, Translates, Walks}
+use Rattle.iom_pointed_board.specs.Roots.{cached_or, context_found}
 use Rattle.iom_registers.specs.Queues.{directory_root}
 use Rattle.iom_registers.specs.declared.directory.DirectoryMode.{DirectoryMode}
 use Rattle.iom_registers.specs.declared.directory.DirectoryMode.TheVariants.{Off, Bare, OneLevel, TwoLevels, ThreeLevels}
@@ -31,7 +33,7 @@ use Rattle.iom_stage_walk.proofs.Exact.{one_walked, reached_not_stopped}
 use Rattle.iom_stage_walk.proofs.OneSecond.{leads_or_faults, one_walked_second}
 use Rattle.iom_stage_walk.specs.Both.{plain}
 use Rattle.iom_stage_walk.specs.Entries.{entries}
-use Rattle.iom_stage_walk.specs.Paths.{first_widths, leaf_level, path_of, IsCanonical, Reaches, ReachesFirst, StopsFirst}
+use Rattle.iom_stage_walk.specs.Paths.{first_widths, leaf_level, path_of, IsCanonical, IsInMemory, Reaches, ReachesFirst, StopsFirst}
 use Rattle.iom_stage_walk.specs.Second.{second_widths, IsGuestPhysical, ReachesSecond, StopsSecond}
 use Rattle.iom_stage_walk.specs.declared.walked.Walked.{Walked}
 use Rattle.iom_stage_walk.specs.declared.walked.WalkFault.{WalkFault}
@@ -47,13 +49,13 @@ some_is x y e = cc
 
 -- WALKS begin alike at each address of a page
 module _ (address other : ℕ) (same : address / 4096 ≡ other / 4096) where
-  canonical : (size : Size) → IsCanonical (levels_of size) address → IsCanonical (levels_of size) other
+  pub canonical : (size : Size) → IsCanonical (levels_of size) address → IsCanonical (levels_of size) other
   canonical Sv39 (inl below) = inl (omega (arith, same, below))
   canonical Sv39 (inr above) = inr (omega (arith, same, above))
   canonical Sv48 (inl below) = inl (omega (arith, same, below))
   canonical Sv48 (inr above) = inr (omega (arith, same, above))
 
-  guest_physical : (size : Size) → IsGuestPhysical (levels_of size) address → IsGuestPhysical (levels_of size) other
+  pub guest_physical : (size : Size) → IsGuestPhysical (levels_of size) address → IsGuestPhysical (levels_of size) other
   guest_physical Sv39 below = omega (arith, same, below)
   guest_physical Sv48 below = omega (arith, same, below)
 
@@ -205,18 +207,20 @@ module _ (sure : Bool) (parts : BoardParts) (id address : ℕ) (low : address < 
       → ServesIn sure (mode_in parts) (or_cause (mode_in parts)) parts.memory address kind (translations_of parts.iommu) answer new → Agrees
   agrees = by_mode (mode_in parts) refl
 
+-- where each access that the right allows finds the frame, each request is answered by it
+pub answered_by_frame : (parts : BoardParts) (id page frame : ℕ) (rights : Rights) → ((kind : AccessKind) → allows rights kind ≡ true → FindsFrame parts id page frame kind)
+    → IfSome (context_found parts id) HasOneStage → IsInMemory parts.memory frame → (kind : AccessKind) → allows rights kind ≡ true
+    → AnswersAre (λ answered. answered ≡ Some frame) parts id page kind
+answered_by_frame parts id page frame rights finds alone inside kind allowed access answer new of low at serves =
+    let (found, by, is) = subst (λ (p : ℕ). FindsFrame parts id p frame access.kind) (sym at) (finds access.kind (ap (allows rights) of ∙ allowed)) in
+    elim (agrees _ parts id access.address low access.kind found answer new by alone serves) [
+      | inl same ↦ same ∙ is
+      | inr (outside, own, none) ↦ let same : access.address / 4096 ≡ frame = some_is (access.address / 4096) frame (sym own ∙ is) in absurd (omega (arith, outside, same, inside))
+    ]
+
 pub ready_accepted : ReadyIsAccepted
-ready_accepted hardware before id page (frame, rights, holds, finds) alone = (
-  frame,
-  rights,
-  holds,
-  λ inside kind allowed access answer new of low at serves.
-      let (found, by, is) = subst (λ (p : ℕ). FindsFrame (board_parts hardware) id p frame access.kind) (sym at) (finds access.kind (ap (allows rights) of ∙ allowed)) in
-      elim (agrees _ (board_parts hardware) id access.address low access.kind found answer new by alone serves) [
-        | inl same ↦ same ∙ is
-        | inr (outside, own, none) ↦ let same : access.address / 4096 ≡ frame = some_is (access.address / 4096) frame (sym own ∙ is) in absurd (omega (arith, outside, same, inside))
-      ],
-)
+ready_accepted hardware before id page (frame, rights, holds, finds) alone =
+    (frame, rights, holds, answered_by_frame (board_parts hardware) id page frame rights finds alone)
 
 pub unready_not_accepted : UnreadyIsNotAccepted
 unready_not_accepted hardware before id page found (frame, rights, holds, (kind, allowed, (by, isnt))) alone = (

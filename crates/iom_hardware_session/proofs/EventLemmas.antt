@@ -1,31 +1,34 @@
 -- What comes of a line of devices or hardware is a call of hardware, or nothing.
 use Rattle.std.proofs.Common.{◌≡◌, ◌⊎◌, inl, inr, ℕ, ◌&&◌, Bool, true, false, List, Option, None, Some, option_map, Result, Ok, Err, refl, sym, ap, ◌∙◌}
-use Rattle.std.proofs.lemmas.Bool.{false≢true, and_from}
-use Rattle.iom_base.specs.declared.access.AccessKind.{AccessKind}
-use Rattle.iom_base.specs.declared.access.AccessKind.TheVariants as kind
+use Rattle.std.proofs.lemmas.Bool.{false≢true}
 use Rattle.iom_base.specs.declared.refusal.Refusal.{Refusal}
 use Rattle.iom_base.specs.Accesses.{read_of, write_of}
-use Rattle.iom_board.specs.BoardParts.{board_parts}
+use Rattle.iom_board.specs.BoardParts.{BoardParts, board_parts}
 use Rattle.iom_board.specs.declared.board.Board.{Board}
 use Rattle.iom_board.specs.declared.sender.Sender.TheVariants.{Own}
 use Rattle.iom_hardware_ways.specs.Calls.{HardwareCall, CallEffect, HarmlessEffect, IsMadeHarmlessly}
 use Rattle.iom_hardware_ways.specs.Calls as call
 use Rattle.iom_hardware_script.specs.declared.script.HardwareLine.TheVariants as line
 use Rattle.iom_hardware.specs.declared.steps.Stepped.{Stepped}
-use Rattle.iom_block_ways.proofs.WholeLemmas.{harmless, step_calls, queue_calls}
+use Rattle.iom_block_ways.proofs.WholeLemmas.{step_calls, queue_calls}
 use Rattle.iom_block_ways.specs.Calls.{UnchangedOrCalls, AreAllThere}
 use Rattle.iom_iommu.specs.declared.begun.Load.{Load}
+use Rattle.iom_hardware_session.specs.EventsPointed.{bare}
+use Rattle.iom_hardware_session.specs.declared.beside.Beside.{Beside}
+use Rattle.iom_hardware_session.specs.declared.beside.Beside.TheVariants.{Nothing, UnderWay, Pointers}
+use Rattle.iom_stepped_ways.specs.Calls.{IsNoTrustedWrite, WritesUntrusted}
 use Rattle.iom_stepped_ways.specs.Calls as stepped
 use Rattle.iom_walks.specs.Walks.{WalkRow}
 use Rattle.iom_hardware_script.specs.Grammar.{is_of_hardware}
 use Rattle.iom_hardware_session.specs.Answered.{reply_in, cache_reply_in, sending_in, fetch_in, timeout_in, delivery_in, drop_in, repeat_in, commit_in, reset_in, load_in, queue_in, step_in, status_in, walk_load_in}
-use Rattle.iom_hardware_session.proofs.SteppedEventLemmas.{effect_beside}
-use Rattle.iom_hardware_session.proofs.SteppedTurnLemmas.{DoesByCall}
+use Rattle.iom_hardware_session.proofs.PointedEventLemmas.{DoesPlainly, pointed_by}
+use Rattle.iom_hardware_session.proofs.SteppedEventLemmas.{effect_beside, none_made, untrusted_commit}
+use Rattle.iom_hardware_session.proofs.BesideTurnLemmas.{DoesByCall}
 use Rattle.iom_hardware_session.specs.Events.{CallOrNothing, EventEffect, Unchanged, LoadsAsAnswered, StepsAsAnswered, SetsQueueAsAnswered, TellsAsAnswered}
 use Rattle.iom_hardware_session.specs.EventsBeside.{CallBeside}
 use Rattle.iom_hardware_session.specs.Paces.{EventBy, EventOrNone, LoadsBy}
 use Rattle.iom_hardware_session.specs.Shown.{ShownHardware}
-use Rattle.iom_hardware_session.specs.Lines.{is_write, is_made_write, is_of_software}
+use Rattle.iom_hardware_session.specs.Lines.{is_made_write, is_of_software}
 use Rattle.iom_hardware_session.specs.declared.answer.Answer.{Answer}
 use Rattle.iom_board.specs.declared.answers.NoPlace.{NoPlace}
 use Rattle.iom_inflight.specs.declared.made.MadeAt.{MadeAt}
@@ -35,9 +38,9 @@ use Rattle.iom_virtqueue.specs.Layouts.{layout_of}
 use Rattle.iom_virtqueue.specs.declared.layout.Layout.{Layout}
 use Rattle.iom_way_survey.specs.Surveys.{is_id_among}
 
--- hardware does this by a call, and what a trusted device writes isn't what hardware reads
+-- hardware does this by a call, and no device that is trusted writes
 abbrev pub EffectByCall : List ℕ → Board → Board → Type 0
-EffectByCall trusted old new = (done : HardwareCall) × CallEffect done (board_parts old) (board_parts new) × HarmlessEffect (is_id_among trusted) done (board_parts old)
+EffectByCall trusted old new = (done : HardwareCall) × CallEffect done (board_parts old) (board_parts new) × WritesUntrusted (is_id_among trusted) done
 
 -- nothing is done at the board, or something by a call
 abbrev pub UnchangedOrEffect : List ℕ → ShownHardware → ShownHardware → Type 0
@@ -46,12 +49,12 @@ UnchangedOrEffect trusted old new = (board_parts new.board ≡ board_parts old.b
 -- so does a block device at a line of its own
 by_block : (trusted : List ℕ) (old new : ShownHardware) → UnchangedOrCalls (board_parts old.board) (board_parts new.board) → UnchangedOrEffect trusted old new
 by_block trusted old new (inl same) = inl same
-by_block trusted old new (inr (done, effect, none)) = inr (done, effect, harmless (is_id_among trusted) done (board_parts old.board) none)
+by_block trusted old new (inr (done, effect, none)) = inr (done, effect, none_made (is_id_among trusted) done none)
 
-by_call : {X : Type 0} (trusted : List ℕ) (old new : ShownHardware) (of : X → HardwareCall) (answer : Option X) → ((x : X) → answer ≡ Some x → HarmlessEffect (is_id_among trusted) (of x) (board_parts old.board))
+by_call : {X : Type 0} (trusted : List ℕ) (old new : ShownHardware) (of : X → HardwareCall) (answer : Option X) → ((x : X) → answer ≡ Some x → WritesUntrusted (is_id_among trusted) (of x))
     → CallOrNothing (option_map of answer) old new → UnchangedOrEffect trusted old new
-by_call trusted old new of None harmless effect = absurd effect
-by_call trusted old new of (Some x) harmless effect = inr (of x, effect.0, harmless x refl)
+by_call trusted old new of None own effect = absurd effect
+by_call trusted old new of (Some x) own effect = inr (of x, effect.0, own x refl)
 
 loads_nothing : (old new : ShownHardware) (address len : ℕ) (answer : Option (Result (Unit {0}) NoPlace)) → LoadsAsAnswered answer address len old new → Unchanged old new
 loads_nothing old new address len None effect = absurd effect
@@ -71,20 +74,10 @@ tells_nothing : (old new : ShownHardware) (device : ℕ) (answer : Option (Resul
 tells_nothing old new device None effect = absurd effect
 tells_nothing old new device (Some answer) effect = effect.1
 
--- a commit that isn't a trusted device's write is harmless
-harmless_commit : (trusted : List ℕ) (old : Board) (id : ℕ) (answer : Result (Option MadeAt) Refusal) → (is_made_write (Some answer) && is_id_among trusted id) ≡ false
-    → IsMadeHarmlessly (is_id_among trusted) (board_parts old) id answer
-harmless_commit trusted old id (Ok (Some made)) none = λ among write read. absurd (false≢true (sym none ∙ and_from (is_write made.kind) (is_id_among trusted id) (writing made.kind write) among))
-  where
-    writing : (k : AccessKind) → k ≡ kind.Write → is_write k ≡ true
-    writing k e = rw e refl
-harmless_commit trusted old id (Ok None) none = tt
-harmless_commit trusted old id (Err why) none = tt
-
 commits : (trusted : List ℕ) (old new : ShownHardware) (id : ℕ) (answer : Option (Result (Option MadeAt) Refusal)) → (is_made_write answer && is_id_among trusted id) ≡ false
     → CallOrNothing (option_map (call.Commit id) answer) old new → UnchangedOrEffect trusted old new
 commits trusted old new id None none effect = absurd effect
-commits trusted old new id (Some answer) none effect = inr (call.Commit id answer, effect.0, harmless_commit trusted old.board id answer none)
+commits trusted old new id (Some answer) none effect = inr (call.Commit id answer, effect.0, untrusted_commit trusted id answer none)
 
 -- AN EVENT that isn't of software stays, or is a call of hardware, where a walk is one event
 whole_effect : (trusted : List ℕ) (old new : ShownHardware) (said : Event) (answer : Answer) → is_of_software (line.Event said) answer trusted ≡ false → EventEffect said answer old new
@@ -123,25 +116,65 @@ whole_effect trusted old new event.Poll answer soft effect = absurd effect
 whole_effect trusted old new event.Faults answer soft effect = absurd effect
 whole_effect trusted old new (event.Free frame) answer soft effect = absurd effect
 
--- the board and what is under way stay, or hardware does something by a call, in either pace
+-- what no trusted device writes is harmless
+harmless_write : (trusted : ℕ → Bool) (old : BoardParts) (id : ℕ) (answer : Result (Option MadeAt) Refusal) → IsNoTrustedWrite trusted id answer → IsMadeHarmlessly trusted old id answer
+harmless_write trusted old id (Ok (Some made)) none = λ among write read. none among write
+harmless_write trusted old id (Ok None) none = tt
+harmless_write trusted old id (Err why) none = tt
+
+untrusted_harmless : (trusted : ℕ → Bool) (done : HardwareCall) (old : BoardParts) → WritesUntrusted trusted done → HarmlessEffect trusted done old
+untrusted_harmless trusted (call.Commit id answer) old none = harmless_write trusted old id answer none
+untrusted_harmless trusted (call.Request sender id access answer) old none = tt
+untrusted_harmless trusted (call.Translated id access answer) old none = tt
+untrusted_harmless trusted (call.ThroughCache sender id access answer) old none = tt
+untrusted_harmless trusted (call.Ask id page answer) old none = tt
+untrusted_harmless trusted (call.AskAtStep id page) old none = tt
+untrusted_harmless trusted (call.Forge id serial answer) old none = tt
+untrusted_harmless trusted (call.Fetch fetched) old none = tt
+untrusted_harmless trusted (call.Timeout has_effect) old none = tt
+untrusted_harmless trusted (call.Deliver place delivered) old none = tt
+untrusted_harmless trusted (call.Drop place found) old none = tt
+untrusted_harmless trusted (call.Repeat place again) old none = tt
+untrusted_harmless trusted (call.Reset id answer) old none = tt
+
+-- the board and what is beside it stay, or hardware does something by calls, whatever is beside it
 abbrev pub UnchangedOrDoes : List ℕ → ShownHardware → ShownHardware → Type 0
 UnchangedOrDoes trusted old new =
-    ((board_parts new.board ≡ board_parts old.board) × (new.walks ≡ old.walks))
-    ⊎ DoesByCall (is_id_among trusted) (board_parts old.board) old.walks (board_parts new.board) new.walks
+    ((board_parts new.board ≡ board_parts old.board) × (new.beside ≡ old.beside))
+    ⊎ DoesByCall (is_id_among trusted) (board_parts old.board) old.beside (board_parts new.board) new.beside
 
 -- what lines leave that change nothing
 pub unchanged : (trusted : List ℕ) (old new : ShownHardware) → Unchanged old new → UnchangedOrDoes trusted old new
-unchanged trusted old new same = inl (same.parts, same.walks)
+unchanged trusted old new same = inl (same.parts, same.beside)
 
 module _ (trusted : List ℕ) (old new : ShownHardware) where
-  by_pace : (walks : Option (List WalkRow)) (said : Event) (answer : Answer) → is_of_software (line.Event said) answer trusted ≡ false → AreAllThere (board_parts old.board) old.inside
-      → EventBy walks said answer old new
-      → ((board_parts new.board ≡ board_parts old.board) × (new.walks ≡ walks)) ⊎ DoesByCall (is_id_among trusted) (board_parts old.board) walks (board_parts new.board) new.walks
-  by_pace None said answer soft all (effect, same) = elim (whole_effect trusted old new said answer soft effect) [ inl is ↦ inl (is, same) | inr does ↦ inr (same, does) ]
-  by_pace (Some rows) said answer soft all (new_rows, same, effect) = elim (effect_beside trusted old new rows new_rows said answer soft all effect) [
-    | inl is ↦ inl (is.0, same ∙ ap (λ (r : List WalkRow). Some r) is.1)
+  -- by what is beside it
+  abbrev StaysOrDoesBy : Beside → Type 0
+  StaysOrDoesBy beside =
+      ((board_parts new.board ≡ board_parts old.board) × (new.beside ≡ beside))
+      ⊎ DoesByCall (is_id_among trusted) (board_parts old.board) beside (board_parts new.board) new.beside
+
+  by_pace : (beside : Beside) (said : Event) (answer : Answer) → is_of_software (line.Event said) answer trusted ≡ false → AreAllThere (board_parts old.board) old.inside
+      → EventBy beside said answer old new → StaysOrDoesBy beside
+  by_pace Nothing said answer soft all (effect, same) = elim (whole_effect trusted old new said answer soft effect) [
+    | inl is ↦ inl (is, same)
+    | inr (done, does, own) ↦ inr (same, (done, does, untrusted_harmless (is_id_among trusted) done (board_parts old.board) own))
+  ]
+  by_pace (UnderWay rows) said answer soft all (new_rows, same, effect) = elim (effect_beside trusted old new rows new_rows said answer soft all effect) [
+    | inl is ↦ inl (is.0, same ∙ ap (λ (r : List WalkRow). UnderWay r) is.1)
     | inr does ↦ inr (new_rows, same, does)
   ]
+  by_pace (Pointers pointers) said answer soft all (new_pointers, same, (between, between_pointers, ahead, disks, blocks, effect, left)) =
+      inr (
+        new_pointers,
+        same,
+        pointed_by trusted said answer old.board between.board new.board pointers between_pointers new_pointers ahead left
+            (plainly between (whole_effect trusted (bare between) (bare new) said answer soft effect)),
+      )
+    where
+      plainly : (between : ShownHardware) → UnchangedOrEffect trusted (bare between) (bare new) → DoesPlainly (is_id_among trusted) (board_parts between.board) (board_parts new.board)
+      plainly between (inl is) = inl is
+      plainly between (inr does) = inr does
 
   -- so of any event
   pub event_effect : (said : Event) (answer : Answer) → is_of_software (line.Event said) answer trusted ≡ false → AreAllThere (board_parts old.board) old.inside → EventOrNone said answer old new
@@ -149,20 +182,18 @@ module _ (trusted : List ℕ) (old new : ShownHardware) where
   event_effect said answer soft all effect = by (is_of_hardware said) refl
     where
       by : (b : Bool) → is_of_hardware said ≡ b → UnchangedOrDoes trusted old new
-      by true is = by_pace old.walks said answer soft all (effect.0 is)
+      by true is = by_pace old.beside said answer soft all (effect.0 is)
       by false is = unchanged trusted old new (effect.1 is).1
 
-  load_by_pace : (walks : Option (List WalkRow)) (device : ℕ) (answer : Answer) → old.walks ≡ walks → LoadsBy walks device answer old new
-      → ((board_parts new.board ≡ board_parts old.board) × (new.walks ≡ walks)) ⊎ DoesByCall (is_id_among trusted) (board_parts old.board) walks (board_parts new.board) new.walks
-  load_by_pace None device answer is (told, same) = inl (same.parts, same.walks ∙ is)
-  load_by_pace (Some rows) device answer is (new_rows, same, effect) = by (walk_load_in answer) effect
+  load_by_pace : (beside : Beside) (device : ℕ) (answer : Answer) → old.beside ≡ beside → LoadsBy beside device answer old new → StaysOrDoesBy beside
+  load_by_pace Nothing device answer is (told, same) = inl (same.parts, same.beside ∙ is)
+  load_by_pace (Pointers pointers) device answer is (told, same) = inl (same.parts, same.beside ∙ is)
+  load_by_pace (UnderWay rows) device answer is (new_rows, same, effect) = by (walk_load_in answer) effect
     where
-      by : (load : Option (Result Load Refusal)) → CallBeside (option_map (stepped.Load device) load) old rows new new_rows
-          → ((board_parts new.board ≡ board_parts old.board) × (new.walks ≡ Some rows))
-          ⊎ DoesByCall (is_id_among trusted) (board_parts old.board) (Some rows) (board_parts new.board) new.walks
+      by : (load : Option (Result Load Refusal)) → CallBeside (option_map (stepped.Load device) load) old rows new new_rows → StaysOrDoesBy (UnderWay rows)
       by None never = absurd never
       by (Some load) does = inr (new_rows, same, (stepped.Load device load, does.0, tt))
 
   -- THE NEXT LOAD of a walk is a call, or nothing
-  pub load_effect : (device : ℕ) (answer : Answer) → LoadsBy old.walks device answer old new → UnchangedOrDoes trusted old new
-  load_effect device answer effect = load_by_pace old.walks device answer refl effect
+  pub load_effect : (device : ℕ) (answer : Answer) → LoadsBy old.beside device answer old new → UnchangedOrDoes trusted old new
+  load_effect device answer effect = load_by_pace old.beside device answer refl effect

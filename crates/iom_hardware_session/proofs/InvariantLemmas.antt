@@ -1,5 +1,5 @@
 -- A session's hardware is sound with what is under way beside it; and so hardware is where its board does something and knows the same block devices.
-use Rattle.std.proofs.Common.{◌≡◌, ℕ, List, Option, None, Some, refl}
+use Rattle.std.proofs.Common.{◌≡◌, ℕ, List, refl}
 use Rattle.iom_block_devices.specs.Shown.{ShownBlock}
 use Rattle.iom_block_ways.specs.Calls.{AreAllThere}
 use Rattle.iom_board.specs.BoardParts.{BoardParts, board_parts}
@@ -11,8 +11,10 @@ use Rattle.iom_hardware.proofs.KeptBlocks.{KeepsKnown}
 use Rattle.iom_hardware.specs.Inside.{inside}
 use Rattle.iom_hardware.specs.Invariant.{HardwareInvariant}
 use Rattle.iom_hardware.specs.declared.hardware.Hardware.{Hardware}
-use Rattle.iom_hardware_session.proofs.SteppedTurnLemmas.{InvariantBy}
+use Rattle.iom_hardware_session.proofs.BesideTurnLemmas.{InvariantBy}
 use Rattle.iom_hardware_session.specs.Beside.{AreSoundBeside, WalksAreSound}
+use Rattle.iom_hardware_session.specs.declared.beside.Beside.{Beside}
+use Rattle.iom_hardware_session.specs.declared.beside.Beside.TheVariants.{Nothing, UnderWay, Pointers}
 use Rattle.iom_hardware_session.specs.declared.state.Session.{Session}
 use Rattle.iom_stepped_ways.specs.Calls.{SteppedInvariant}
 use Rattle.iom_virtio_blk.specs.MemoryDisks.{disk_state}
@@ -33,13 +35,14 @@ pub all_there : {d : Ghosts MemoryDisk} (hardware : Hardware MemoryDisk d) → H
 all_there hardware invariants = λ id able none. there_able disk_state hardware invariants id able none
 
 -- so a session's calls find what they ask for
-sound_by : (parts : BoardParts) (blocks : List ShownBlock) (walks : Option (List WalkRow)) (events : ℕ) → BoardInvariant parts events → WalksAreSound parts blocks walks → InvariantBy parts walks events
-sound_by parts blocks None events board sound = board
-sound_by parts blocks (Some rows) events board sound = record { board = board; beside = sound.beside.board; walks = sound.walks }
+sound_by : (parts : BoardParts) (blocks : List ShownBlock) (beside : Beside) (events : ℕ) → BoardInvariant parts events → WalksAreSound parts blocks beside → InvariantBy parts beside events
+sound_by parts blocks Nothing events board sound = board
+sound_by parts blocks (Pointers pointers) events board sound = board
+sound_by parts blocks (UnderWay rows) events board sound = record { board = board; beside = sound.beside.board; walks = sound.walks }
 
-pub invariant_by : (session : Session) → InvariantBy (board_parts session.hardware.board) session.walks session.hardware.board.events
+pub invariant_by : (session : Session) → InvariantBy (board_parts session.hardware.board) session.beside session.hardware.board.events
 invariant_by session =
-    sound_by (board_parts session.hardware.board) (inside disk_state session.hardware).blocks session.walks session.hardware.board.events session.invariants session.beside
+    sound_by (board_parts session.hardware.board) (inside disk_state session.hardware).blocks session.beside session.hardware.board.events session.invariants session.sound
 
 -- the same of hardware with these under way beside it
 pub invariant_beside : {d : Ghosts MemoryDisk} (hardware : Hardware MemoryDisk d) (rows : List WalkRow) → HardwareInvariant hardware

@@ -9,13 +9,14 @@ use Rattle.iom_claims.proofs.ListLemmas.{contains_filter, any_from_passing}
 use Rattle.iom_claims.specs.Claimed.{Claimed}
 use Rattle.iom_board.specs.BoardParts.{BoardParts, board_parts}
 use Rattle.iom_hardware_session.proofs.InvariantLemmas.{invariant_by}
-use Rattle.iom_hardware_session.proofs.SteppedTurnLemmas.{DoesByCall, came_before, fewer_come}
+use Rattle.iom_hardware_session.proofs.BesideTurnLemmas.{DoesByCall, came_before, fewer_come}
 use Rattle.iom_hardware_session.proofs.TurnLemmas.{AreFewer}
 use Rattle.iom_hardware_session.specs.Laws.{Comes, ComesToMake, HoldsOn, GoodAgainHolds}
 use Rattle.iom_hardware_session.specs.Runs.{has_fallen}
 use Rattle.iom_hardware_session.specs.Shown.{shown_in}
 use Rattle.iom_hardware_session.specs.Watching.{is_about_same, still_good, claims_of, IsVerdictOf, AreJudgedAgain}
 use Rattle.iom_hardware_session.specs.declared.answer.Wrong.{Wrong}
+use Rattle.iom_hardware_session.specs.declared.beside.Beside.{Beside}
 use Rattle.iom_hardware_session.specs.declared.state.Session.{Session}
 use Rattle.iom_hardware_session.specs.declared.watched.GoodClaim.{GoodClaim}
 use Rattle.iom_hardware_session.specs.declared.watched.GoodClaim.TheVariants as good
@@ -23,7 +24,6 @@ use Rattle.iom_hardware_session.specs.declared.watched.Watched.{Watched}
 use Rattle.iom_hardware_ways.proofs.ListLemmas.{get_contains}
 use Rattle.iom_inflight.specs.declared.made.MadeAt.{MadeAt}
 use Rattle.iom_ledger.specs.History.{May}
-use Rattle.iom_walks.specs.Walks.{WalkRow}
 use Rattle.iom_way_survey.proofs.WayLemmas.{contains_get}
 use Rattle.iom_way_survey.specs.Surveys.{is_id_among}
 
@@ -94,18 +94,19 @@ still_watched claim watched (own, there, same, fine) =
 abbrev pub ComesSooner : Session → Session → Type 0
 ComesSooner old new = (id : ℕ) (made : MadeAt) → ComesToMake new id made → ComesToMake old id made
 
-pub stays_sooner : (old new : Session) → board_parts new.hardware.board ≡ board_parts old.hardware.board → new.walks ≡ old.walks
+pub stays_sooner : (old new : Session) → board_parts new.hardware.board ≡ board_parts old.hardware.board → new.beside ≡ old.beside
     → AreFewer (is_id_among old.trusted.items) (is_id_among new.trusted.items) → ComesSooner old new
-stays_sooner old new same walks fewer = λ id made comes.
-    fewer_come (is_id_among old.trusted.items) (is_id_among new.trusted.items) (board_parts old.hardware.board) old.walks id made fewer
-    (subst (λ (w : Option (List WalkRow)). Comes (is_id_among new.trusted.items) (board_parts old.hardware.board) w id made) walks
-    (subst (λ (parts : BoardParts). Comes (is_id_among new.trusted.items) parts new.walks id made) same comes))
+stays_sooner old new same same_beside fewer = λ id made comes.
+    fewer_come (is_id_among old.trusted.items) (is_id_among new.trusted.items) (board_parts old.hardware.board) old.beside id made fewer
+    (subst (λ (beside : Beside). Comes (is_id_among new.trusted.items) (board_parts old.hardware.board) beside id made) same_beside
+    (subst (λ (parts : BoardParts). Comes (is_id_among new.trusted.items) parts new.beside id made) same comes))
 
 pub call_sooner : (old new : Session) → new.trusted.items ≡ old.trusted.items
-    → DoesByCall (is_id_among old.trusted.items) (board_parts old.hardware.board) old.walks (board_parts new.hardware.board) new.walks → ComesSooner old new
+    → DoesByCall (is_id_among old.trusted.items) (board_parts old.hardware.board) old.beside (board_parts new.hardware.board) new.beside → ComesSooner old new
 call_sooner old new same does = λ id made comes.
-    came_before (is_id_among old.trusted.items) old.hardware.board.events id made (board_parts old.hardware.board) (board_parts new.hardware.board) old.walks new.walks (invariant_by old) does
-    (subst (λ (trusted : List ℕ). Comes (is_id_among trusted) (board_parts new.hardware.board) new.walks id made) same comes)
+    came_before (is_id_among old.trusted.items) old.hardware.board.events new.hardware.board.events id made (board_parts old.hardware.board) (board_parts new.hardware.board) old.beside new.beside (invariant_by old)
+    new.invariants does
+    (subst (λ (trusted : List ℕ). Comes (is_id_among trusted) (board_parts new.hardware.board) new.beside id made) same comes)
 
 -- who was trusted is
 pub none_fewer : (old new : List ℕ) → new ≡ old → AreFewer (is_id_among old) (is_id_among new)

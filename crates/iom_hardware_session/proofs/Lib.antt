@@ -6,6 +6,9 @@ pub mod WatchLemmas
 pub mod GoodLemmas
 pub mod TurnLemmas
 pub mod SteppedTurnLemmas
+pub mod PointedEventLemmas
+pub mod PointedTurnLemmas
+pub mod BesideTurnLemmas
 mod LeftLemmas
 pub mod MayLemmas
 pub mod InvariantLemmas
@@ -16,4 +19,6 @@ pub mod ClaimLemmas
 pub mod SessionLemmas
 mod SameLemmas
 pub mod ReadyLemmas
+pub mod ReadyPointedLemmas
 pub mod AcceptLemmas
+pub mod AcceptPointedLemmas

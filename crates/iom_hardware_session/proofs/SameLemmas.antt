@@ -21,7 +21,7 @@ use Rattle.iom_hardware_session.specs.declared.answer.Wrong.TheVariants.{Held, L
 use Rattle.iom_hardware_session.specs.declared.watched.Watched.{Watched}
 use Rattle.iom_hardware_session.specs.declared.watched.GoodClaim.{GoodClaim}
 
-both : (x y : Bool) → x && y ≡ true → (x ≡ true) × (y ≡ true)
+pub both : (x y : Bool) → x && y ≡ true → (x ≡ true) × (y ≡ true)
 both true y e = (refl, e)
 both false y e = absurd (cc)
 
@@ -31,7 +31,7 @@ one_cause a b e = grind (arith, common_steps)
 one_kind : (a b : AccessKind) → kind.ghosts.eq a b ≡ true → a ≡ b
 one_kind a b e = grind (arith, common_steps)
 
-one_space : (a b : Space) → space.ghosts.eq a b ≡ true → a ≡ b
+pub one_space : (a b : Space) → space.ghosts.eq a b ≡ true → a ≡ b
 one_space a b e = grind (arith, common_steps)
 
 one_good_claim : (a b : GoodClaim) → good_claim.ghosts.eq a b ≡ true → a ≡ b

@@ -78,7 +78,7 @@ software_claims_nothing (line.Help help) answer trusted before is = refl
 
 -- a claim, where it is judged
 claim_line : DoneStaysDone → HandedOffStaysFree → (own : Said) (answer : Option ClaimAnswer) (claim : GoodClaim) (old new : Session) (before : Claimed) → ShowsClaimed old.claims before
-    → board_parts new.hardware.board ≡ board_parts old.hardware.board → new.walks ≡ old.walks → TrustsWhere own answer old.trusted.items new.trusted.items → IsAdmittedWhere own answer old.hardware.board before
+    → board_parts new.hardware.board ≡ board_parts old.hardware.board → new.beside ≡ old.beside → TrustsWhere own answer old.trusted.items new.trusted.items → IsAdmittedWhere own answer old.hardware.board before
     → IsGoodWhere own answer (shown_in new) new.trusted.items before → WatchesClaimWhere own answer before (still_good old.watched.items) new.watched.items → is_wrong_claim answer ≡ false
     → IsNotEndedWhere claim own answer → IsKept claim old before → IsKept claim new (claimed_where own answer before)
 claim_line unchanged free own None claim old new before shows same walks trusts admitted means watches fine ends (was, holds) = absurd admitted
@@ -95,7 +95,7 @@ stays_line : (claim : GoodClaim) (old new : Session) (before : Claimed) → Unch
     → new.watched.items ≡ still_good old.watched.items → IsKept claim old before → IsKept claim new before
 stays_line claim old new before same trusts watches (was, holds) = (
   subst (λ (w : List Watched). IsWatched claim w) (sym watches) (still_watched claim old.watched.items was),
-  holds_sooner claim old new before (stays_sooner old new same.parts same.walks (none_fewer old.trusted.items new.trusted.items trusts)) holds,
+  holds_sooner claim old new before (stays_sooner old new same.parts same.beside (none_fewer old.trusted.items new.trusted.items trusts)) holds,
 )
 
 -- where hardware does something, or nothing
@@ -121,7 +121,7 @@ hard_line unchanged free (line.RegisterRead offset width) answer claim old new b
     stays_line claim old new before effect.1 trusts watches kept
 hard_line unchanged free (line.RegisterWrite offset width value) answer claim old new before shows effect trusts admitted means watches soft fine ends kept = absurd (false≢true (sym soft))
 hard_line unchanged free (line.Claim own) answer claim old new before shows effect trusts admitted means watches soft fine ends kept =
-    claim_line unchanged free own (judgement_in answer) claim old new before shows effect.parts effect.walks trusts admitted means watches fine (not_ended_claim claim own answer ends) kept
+    claim_line unchanged free own (judgement_in answer) claim old new before shows effect.parts effect.beside trusts admitted means watches fine (not_ended_claim claim own answer ends) kept
 hard_line unchanged free (line.Help help) answer claim old new before shows effect trusts admitted means watches soft fine ends kept =
     stays_line claim old new before effect.1 trusts watches kept
 

@@ -1,5 +1,5 @@
 -- A write of a register is a change that software makes.
-use Rattle.std.proofs.Common.{◌≡◌, ℕ, List, Option, None, Some, Result, Ok, Err, refl, sym, subst}
+use Rattle.std.proofs.Common.{◌≡◌, ℕ, List, Result, Ok, Err, refl, sym, subst}
 use Rattle.iom_block_devices.specs.Shown.{ShownBlock}
 use Rattle.iom_board.specs.BoardParts.{BoardParts}
 use Rattle.iom_iommu.specs.OwnIommu.{Iommu}
@@ -9,8 +9,9 @@ use Rattle.iom_registers.specs.Places.{changed_by}
 use Rattle.iom_registers.specs.declared.register.RegFault.{RegFault}
 use Rattle.iom_registers.specs.declared.register.Register.{Register}
 use Rattle.iom_hardware_session.specs.Beside.{WalksAreSound}
+use Rattle.iom_hardware_session.specs.declared.beside.Beside.{Beside}
+use Rattle.iom_hardware_session.specs.declared.beside.Beside.TheVariants.{Nothing, UnderWay, Pointers}
 use Rattle.iom_stepped_hardware.specs.Laws.{SoftwareStaysBeside}
-use Rattle.iom_walks.specs.Walks.{WalkRow}
 
 pub after_writes : WritesAreSoftware → (parts : BoardParts) (value : ℕ) (at : Result Register RegFault) (new : Iommu)
     → new ≡ changed_by (after_write parts.iommu) parts.iommu value at → ChangesAsSoftware parts (record parts { iommu = new })
@@ -20,7 +21,8 @@ after_writes writes parts value (Err why) new is =
     (record { size = refl; frames = refl; flights = refl; last = refl; devices = refl; fabric = refl })
 
 -- and leaves what is under way
-pub walks_stay : SoftwareStaysBeside → (old new : BoardParts) (blocks : List ShownBlock) (walks : Option (List WalkRow)) → WalksAreSound old blocks walks → ChangesAsSoftware old new
-    → WalksAreSound new blocks walks
-walks_stay stays old new blocks None sound changes = tt
-walks_stay stays old new blocks (Some rows) sound changes = record { walks = sound.walks; beside = stays old new blocks rows sound.beside changes; kinds = sound.kinds }
+pub walks_stay : SoftwareStaysBeside → (old new : BoardParts) (blocks : List ShownBlock) (beside : Beside) → WalksAreSound old blocks beside → ChangesAsSoftware old new
+    → WalksAreSound new blocks beside
+walks_stay stays old new blocks Nothing sound changes = tt
+walks_stay stays old new blocks (Pointers pointers) sound changes = tt
+walks_stay stays old new blocks (UnderWay rows) sound changes = record { walks = sound.walks; beside = stays old new blocks rows sound.beside changes; kinds = sound.kinds }

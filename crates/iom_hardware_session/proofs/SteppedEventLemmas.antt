@@ -17,6 +17,7 @@ use Rattle.iom_hardware_session.specs.Events.{IsForeign, LoadsAsAnswered, SetsQu
 use Rattle.iom_hardware_session.specs.EventsBeside.{AddsAsAnswered, CallBeside, EffectBeside, GivesUpAsAnswered, StepsBeside}
 use Rattle.iom_hardware_session.specs.Lines.{is_write, is_made_write, is_of_software}
 use Rattle.iom_hardware_session.specs.Shown.{ShownHardware}
+use Rattle.iom_hardware_session.specs.declared.beside.Beside.TheVariants as beside
 use Rattle.iom_hardware_session.specs.declared.answer.Answer.{Answer}
 use Rattle.iom_hardware_ways.specs.Calls as whole
 use Rattle.iom_hardware_ways.specs.Calls.{HardwareCall}
@@ -40,7 +41,7 @@ StaysOrDoes trusted old rows new new_rows =
     ⊎ ((done : SteppedCall) × SteppedEffect done (board_parts old.board) rows (board_parts new.board) new_rows × IsByHardware (is_id_among trusted) done)
 
 -- a call that makes no access is one by hardware
-none_made : (trusted : ℕ → Bool) (done : HardwareCall) → MakesNone done → WritesUntrusted trusted done
+pub none_made : (trusted : ℕ → Bool) (done : HardwareCall) → MakesNone done → WritesUntrusted trusted done
 none_made trusted (whole.Commit id answer) none = absurd none
 none_made trusted (whole.Request sender id access answer) none = tt
 none_made trusted (whole.Translated id access answer) none = tt
@@ -63,6 +64,16 @@ none_made_beside trusted (call.TranslatedBeside id access answer) none = tt
 none_made_beside trusted (call.ThroughCacheBeside sender id access answer) none = tt
 none_made_beside trusted (call.FetchBeside fetched) none = tt
 none_made_beside trusted (call.ResetBeside id answer) none = tt
+
+-- a commit that isn't a trusted device's write
+pub untrusted_commit : (trusted : List ℕ) (id : ℕ) (answer : Result (Option MadeAt) Refusal) → (is_made_write (Some answer) && is_id_among trusted id) ≡ false
+    → IsNoTrustedWrite (is_id_among trusted) id answer
+untrusted_commit trusted id (Ok (Some made)) none = λ among write. false≢true (sym none ∙ and_from (is_write made.kind) (is_id_among trusted id) (writing made.kind write) among)
+  where
+    writing : (k : AccessKind) → k ≡ kind.Write → is_write k ≡ true
+    writing k e = rw e refl
+untrusted_commit trusted id (Ok None) none = tt
+untrusted_commit trusted id (Err why) none = tt
 
 module _ (trusted : List ℕ) (old new : ShownHardware) (rows new_rows : List WalkRow) where
   by_block : StaysOrCalls (board_parts old.board) rows (board_parts new.board) new_rows → StaysOrDoes trusted old rows new new_rows
@@ -100,19 +111,10 @@ module _ (trusted : List ℕ) (old new : ShownHardware) (rows new_rows : List Wa
   sets device layout (Some answer) effect =
       by_block (stepped_queue_calls (board_parts old.board) (board_parts new.board) rows new_rows device layout answer effect.0.0 effect.1.0 effect.1.1)
 
-  -- a commit that isn't a trusted device's write
-  untrusted_commit : (id : ℕ) (answer : Result (Option MadeAt) Refusal) → (is_made_write (Some answer) && is_id_among trusted id) ≡ false → IsNoTrustedWrite (is_id_among trusted) id answer
-  untrusted_commit id (Ok (Some made)) none = λ among write. false≢true (sym none ∙ and_from (is_write made.kind) (is_id_among trusted id) (writing made.kind write) among)
-    where
-      writing : (k : AccessKind) → k ≡ kind.Write → is_write k ≡ true
-      writing k e = rw e refl
-  untrusted_commit id (Ok None) none = tt
-  untrusted_commit id (Err why) none = tt
-
   commits : (id : ℕ) (answer : Option (Result (Option MadeAt) Refusal)) → (is_made_write answer && is_id_among trusted id) ≡ false
       → CallBeside (option_map call.Alone (option_map (whole.Commit id) answer)) old rows new new_rows → StaysOrDoes trusted old rows new new_rows
   commits id None none effect = absurd effect
-  commits id (Some answer) none effect = inr (call.Alone (whole.Commit id answer), effect.0, untrusted_commit id answer none)
+  commits id (Some answer) none effect = inr (call.Alone (whole.Commit id answer), effect.0, untrusted_commit trusted id answer none)
 
   -- AN EVENT that isn't of software stays, or is a call by hardware
   pub effect_beside : (said : Event) (answer : Answer) → is_of_software (line.Event said) answer trusted ≡ false → AreAllThere (board_parts old.board) old.inside
@@ -223,12 +225,12 @@ module _ (stay : KindsStay) (outlive : KindsOutliveSoftware) (old new : ShownHar
 
   -- so after any event: one that is none of hardware leaves what is under way
   pub kinds_after_any : (said : Event) (answer : Answer) → AreAllThere (board_parts old.board) old.inside → (IsOfHardware said → EffectBeside said answer old rows new new_rows)
-      → (is_of_hardware said ≡ false → IsForeign answer (record old { walks = Some rows }) (record new { walks = Some new_rows })) → AreForKinds new_rows
+      → (is_of_hardware said ≡ false → IsForeign answer (record old { beside = beside.UnderWay rows }) (record new { beside = beside.UnderWay new_rows })) → AreForKinds new_rows
   kinds_after_any said answer all effect foreign = by (is_of_hardware said) refl
     where
-      inside : Some new_rows ≡ Some rows → new_rows ≡ rows
+      inside : beside.UnderWay new_rows ≡ beside.UnderWay rows → new_rows ≡ rows
       inside e = cc
 
       by : (b : Bool) → is_of_hardware said ≡ b → AreForKinds new_rows
       by true is = kinds_after said answer all (effect is)
-      by false is = same_kinds (inside (foreign is).1.walks)
+      by false is = same_kinds (inside (foreign is).1.beside)

@@ -1,12 +1,11 @@
 -- Calls of hardware whose walks make one load an event, one after another: after more events, with fewer devices trusted, with one call before them.
-use Rattle.std.proofs.Common.{◌≡◌, ℕ, ◌+◌, Bool, true, List, [], ◌∷◌, Option, None, Some, Result, Ok, Err, subst, arith}
+use Rattle.std.proofs.Common.{◌≡◌, ℕ, ◌+◌, Bool, List, [], ◌∷◌, Option, None, Some, Result, Ok, Err, subst, arith}
 use Rattle.iom_base.specs.declared.refusal.Refusal.{Refusal}
 use Rattle.iom_board.specs.BoardParts.{BoardParts}
-use Rattle.iom_board.specs.Invariant.{BoardInvariant}
-use Rattle.iom_hardware_session.proofs.TurnLemmas.{AreFewer, sound_later, comes_fewer, comes_before}
-use Rattle.iom_hardware_session.specs.Laws.{Comes, ComesFromWalks}
+use Rattle.iom_hardware_session.proofs.TurnLemmas.{AreFewer, sound_later}
+use Rattle.iom_hardware_session.specs.Laws.{ComesFromWalks}
 use Rattle.iom_hardware_ways.specs.Calls as whole
-use Rattle.iom_hardware_ways.specs.Calls.{HardwareCall, CallEffect, HarmlessEffect}
+use Rattle.iom_hardware_ways.specs.Calls.{HardwareCall}
 use Rattle.iom_inflight.specs.declared.made.MadeAt.{MadeAt}
 use Rattle.iom_stepped_ways.specs.Calls.{SteppedCall, Alone, Begin, Load, TranslatedBeside, ThroughCacheBeside, FetchBeside, ResetBeside, SteppedEffect, IsNoTrustedWrite, WritesUntrusted, IsByHardware, SteppedInvariant, DoSteppedInTurn}
 use Rattle.iom_walks.specs.Walks.{WalkRow}
@@ -34,7 +33,7 @@ turns_later trusted (first ∷ others) events more old new rows new_rows (invari
     swap a b = omega arith
 
 -- what may come after a call may come with the call before it
-comes_after : (trusted : ℕ → Bool) (call : SteppedCall) (calls : List SteppedCall) (events id : ℕ) (made : MadeAt) (old new : BoardParts) (rows new_rows : List WalkRow)
+pub comes_after : (trusted : ℕ → Bool) (call : SteppedCall) (calls : List SteppedCall) (events id : ℕ) (made : MadeAt) (old new : BoardParts) (rows new_rows : List WalkRow)
     → SteppedInvariant old rows events → IsByHardware trusted call → SteppedEffect call old rows new new_rows → ComesFromWalks trusted new new_rows calls id made
     → ComesFromWalks trusted old rows (call ∷ calls) id made
 comes_after trusted call calls events id made old new rows new_rows invariants own effect (more, between, between_rows, last, turns, commits) = (
@@ -66,7 +65,7 @@ no_write fewer more id (Ok (Some made)) are is = λ trusted. is (are id trusted)
 no_write fewer more id (Ok None) are is = is
 no_write fewer more id (Err why) are is = is
 
-untrusted : (fewer more : ℕ → Bool) (call : HardwareCall) → AreFewer fewer more → WritesUntrusted more call → WritesUntrusted fewer call
+pub untrusted : (fewer more : ℕ → Bool) (call : HardwareCall) → AreFewer fewer more → WritesUntrusted more call → WritesUntrusted fewer call
 untrusted fewer more (whole.Commit id answer) are is = no_write fewer more id answer are is
 untrusted fewer more (whole.Request sender id access answer) are is = is
 untrusted fewer more (whole.Translated id access answer) are is = is
@@ -90,38 +89,8 @@ by_hardware fewer more (ThroughCacheBeside sender id access answer) are is = is
 by_hardware fewer more (FetchBeside fetched) are is = is
 by_hardware fewer more (ResetBeside id answer) are is = is
 
-turns_fewer : (fewer more : ℕ → Bool) (calls : List SteppedCall) (events : ℕ) (old new : BoardParts) (rows new_rows : List WalkRow) → AreFewer fewer more
+pub turns_fewer : (fewer more : ℕ → Bool) (calls : List SteppedCall) (events : ℕ) (old new : BoardParts) (rows new_rows : List WalkRow) → AreFewer fewer more
     → DoSteppedInTurn more events old rows calls new new_rows → DoSteppedInTurn fewer events old rows calls new new_rows
 turns_fewer fewer more [] events old new rows new_rows are turns = turns
 turns_fewer fewer more (first ∷ others) events old new rows new_rows are (invariants, own, (between, between_rows, effect, rest)) =
     (invariants, by_hardware fewer more first are own, (between, between_rows, effect, turns_fewer fewer more others (events + 1) between new between_rows new_rows are rest))
-
--- EITHER PACE
-
--- what may come with more devices trusted may come with fewer
-pub fewer_come : (fewer more : ℕ → Bool) (parts : BoardParts) (walks : Option (List WalkRow)) (id : ℕ) (made : MadeAt) → AreFewer fewer more → Comes more parts walks id made
-    → Comes fewer parts walks id made
-fewer_come fewer more parts None id made are (calls, comes) = (calls, comes_fewer fewer more parts calls id made are comes)
-fewer_come fewer more parts (Some rows) id made are (calls, (events, between, between_rows, new, turns, commits)) =
-    (calls, (events, between, between_rows, new, turns_fewer fewer more calls events parts between rows between_rows are turns, commits))
-
--- hardware does something by a call; in whole hardware what a trusted device writes isn't what hardware reads, and where walks take several events it writes nothing
-abbrev pub DoesByCall : (ℕ → Bool) → BoardParts → Option (List WalkRow) → BoardParts → Option (List WalkRow) → Type 0
-DoesByCall trusted old None new new_walks = (new_walks ≡ None) × ((done : HardwareCall) × CallEffect done old new × HarmlessEffect trusted done old)
-DoesByCall trusted old (Some rows) new new_walks =
-    (new_rows : List WalkRow) × (new_walks ≡ Some new_rows) × ((done : SteppedCall) × SteppedEffect done old rows new new_rows × IsByHardware trusted done)
-
--- what stays true of hardware of either pace
-abbrev pub InvariantBy : BoardParts → Option (List WalkRow) → ℕ → Type 0
-InvariantBy parts None events = BoardInvariant parts events
-InvariantBy parts (Some rows) events = SteppedInvariant parts rows events
-
--- what may come after that might have come before
-pub came_before : (trusted : ℕ → Bool) (events id : ℕ) (made : MadeAt) (old new : BoardParts) (walks new_walks : Option (List WalkRow)) → InvariantBy old walks events
-    → DoesByCall trusted old walks new new_walks → Comes trusted new new_walks id made → Comes trusted old walks id made
-came_before trusted events id made old new None new_walks invariants (same, (done, effect, harmless)) comes =
-    let (calls, came) = subst (λ (w : Option (List WalkRow)). Comes trusted new w id made) same comes in
-    (done ∷ calls, comes_before trusted done calls events id made old new invariants harmless effect came)
-came_before trusted events id made old new (Some rows) new_walks invariants (new_rows, same, (done, effect, own)) comes =
-    let (calls, came) = subst (λ (w : Option (List WalkRow)). Comes trusted new w id made) same comes in
-    (done ∷ calls, comes_after trusted done calls events id made old new rows new_rows invariants own effect came)

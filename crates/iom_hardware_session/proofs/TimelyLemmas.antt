@@ -1,5 +1,5 @@
 -- Messages of no epoch to come are questions and answers of none.
-use Rattle.std.proofs.Common.{◌≡◌, ◌≤◌, ℕ, zero, suc, Bool, List, [], ◌∷◌, map, slice_get, Contains, Option, None, Some, refl, subst, arith}
+use Rattle.std.proofs.Common.{◌≡◌, ◌≤◌, ℕ, zero, suc, Bool, List, [], ◌∷◌, map, slice_get, Contains, Some, refl, subst, arith}
 use Rattle.iom_device.specs.Caches.{epoch_in}
 use Rattle.iom_fabric.specs.declared.fabric.OnLink.{OnLink}
 use Rattle.iom_fabric.specs.declared.message.Message.{Message as Sent}
@@ -9,9 +9,10 @@ use Rattle.iom_board.specs.BoardParts.{BoardParts}
 use Rattle.iom_hardware_ways.specs.Scenes.{message_of, said_on, scene_of}
 use Rattle.iom_reach.specs.Safe.{AreTimely}
 use Rattle.iom_reach.specs.Scene.{Message, Question, Answer, Mapping}
+use Rattle.iom_hardware_session.specs.Good.{scene_by}
 use Rattle.iom_hardware_session.specs.Timely.{IsBy, IsTimelyMessage}
-use Rattle.iom_walks.specs.Walks.{WalkRow}
-use Rattle.iom_way_survey.specs.Surveys.{scene_beside}
+use Rattle.iom_hardware_session.specs.declared.beside.Beside.{Beside}
+use Rattle.iom_hardware_session.specs.declared.beside.Beside.TheVariants.{Nothing, UnderWay, Pointers}
 
 -- a message that is among those of a scene stands on a link
 pub on_link : (fabric : List OnLink) (message : Message) → Contains (map message_of fabric) message → (k : ℕ) × (on : OnLink) × (slice_get fabric k ≡ Some on) × (message_of on ≡ message)
@@ -59,8 +60,9 @@ timely trusted parts each = record {
       subst (λ (d : ℕ). epoch ≤ epoch_in parts.devices d) own by;
 }
 
--- also by what is under way, which has no part in messages
-pub timely_beside : (trusted : ℕ → Bool) (parts : BoardParts) (walks : Option (List WalkRow)) → ((k : ℕ) (on : OnLink) → slice_get parts.fabric k ≡ Some on → IsTimelyMessage parts on)
-    → AreTimely (scene_beside trusted parts walks)
-timely_beside trusted parts None each = timely trusted parts each
-timely_beside trusted parts (Some rows) each = let alone = timely trusted parts each in record { asked = alone.asked; answered = alone.answered }
+-- also by what hardware keeps beside, which has no part in messages
+pub timely_beside : (trusted : ℕ → Bool) (parts : BoardParts) (beside : Beside) → ((k : ℕ) (on : OnLink) → slice_get parts.fabric k ≡ Some on → IsTimelyMessage parts on)
+    → AreTimely (scene_by trusted parts beside)
+timely_beside trusted parts Nothing each = timely trusted parts each
+timely_beside trusted parts (Pointers pointers) each = let alone = timely trusted parts each in record { asked = alone.asked; answered = alone.answered }
+timely_beside trusted parts (UnderWay rows) each = let alone = timely trusted parts each in record { asked = alone.asked; answered = alone.answered }

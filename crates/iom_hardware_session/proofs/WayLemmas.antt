@@ -10,6 +10,12 @@ use Rattle.iom_board.specs.BoardParts.{BoardParts}
 use Rattle.iom_board.specs.Invariant.{BoardInvariant, flight_ids, device_ids}
 use Rattle.iom_block_devices.specs.Shown.{ShownBlock}
 use Rattle.iom_hardware_session.specs.Beside.{WalksAreSound}
+use Rattle.iom_hardware_session.specs.Good.{scene_by}
+use Rattle.iom_hardware_session.specs.declared.beside.Beside.{Beside}
+use Rattle.iom_hardware_session.specs.declared.beside.Beside.TheVariants as beside
+use Rattle.iom_pointer_ways.proofs.SceneLemmas.{pointers_add_their_ways}
+use Rattle.iom_pointer_ways.specs.Scenes.{pointed_scene}
+use Rattle.iom_pointers.specs.declared.pointer.Pointer.{Pointer}
 use Rattle.iom_hardware_ways.specs.Scenes.{ats_kind, flights_in, scene_of}
 use Rattle.iom_inflight.specs.Flights.{FlightRow, row_of}
 use Rattle.iom_iommu.specs.Parts.{flights_of}
@@ -20,7 +26,6 @@ use Rattle.iom_stepped_ways.specs.Scenes.{access_on, added_of, stepped_scene}
 use Rattle.iom_walks.specs.Invariant.{AreWalks}
 use Rattle.iom_walks.specs.Walks.{UnderWay, WalkRow, under_way_of}
 use Rattle.iom_way_survey.proofs.UnderWayLemmas.{lets_through, part_under_way, under_way_plugged}
-use Rattle.iom_way_survey.specs.Surveys.{scene_beside}
 use Rattle.iom_way_survey.specs.Walking.{IsLetThrough}
 
 -- what holds of reads and of writes holds of each kind of access
@@ -121,11 +126,21 @@ stepped_place trusted parts rows events device frame kind walks same invariants 
     let named : device ≡ other = cc in
     under_way_place rows parts.devices device own same (ap (under_way_of rows) named ∙ is)
 
--- in either pace
-pub place_beside : (trusted : ℕ → Bool) (parts : BoardParts) (blocks : List ShownBlock) (walks : Option (List WalkRow)) (events device frame : ℕ) (kind : AccessKind) → BoardInvariant parts events
-    → WalksAreSound parts blocks walks → Way (scene_beside trusted parts walks) device frame kind → (k : ℕ) × (own : Device) × (slice_get parts.devices k ≡ Some own) × (own.id ≡ device)
-place_beside trusted parts blocks None events device frame kind invariants sound way = has_place trusted parts events device frame kind invariants way
-place_beside trusted parts blocks (Some rows) events device frame kind invariants sound way =
+-- so is one that has a way by a pointer
+pointed_place : (trusted : ℕ → Bool) (parts : BoardParts) (pointers : List Pointer) (events device frame : ℕ) (kind : AccessKind) → BoardInvariant parts events
+    → Way (pointed_scene trusted parts pointers) device frame kind → (k : ℕ) × (own : Device) × (slice_get parts.devices k ≡ Some own) × (own.id ≡ device)
+pointed_place trusted parts pointers events device frame kind invariants way = elim ((pointers_add_their_ways (scene_of trusted parts) pointers device frame kind).0 way) [
+  | inl alone ↦ has_place trusted parts events device frame kind invariants alone
+  | inr (context, ((own, is), found), through) ↦ plugged parts.devices device own is
+]
+
+-- of any hardware
+pub place_beside : (trusted : ℕ → Bool) (parts : BoardParts) (blocks : List ShownBlock) (own : Beside) (events device frame : ℕ) (kind : AccessKind) → BoardInvariant parts events
+    → WalksAreSound parts blocks own → Way (scene_by trusted parts own) device frame kind → (k : ℕ) × (own : Device) × (slice_get parts.devices k ≡ Some own) × (own.id ≡ device)
+place_beside trusted parts blocks beside.Nothing events device frame kind invariants sound way = has_place trusted parts events device frame kind invariants way
+place_beside trusted parts blocks (beside.Pointers pointers) events device frame kind invariants sound way =
+    pointed_place trusted parts pointers events device frame kind invariants way
+place_beside trusted parts blocks (beside.UnderWay rows) events device frame kind invariants sound way =
     stepped_place trusted parts rows events device frame kind sound.walks sound.beside.board.ids invariants way
 
 -- one place has one device

@@ -13,11 +13,12 @@ use Rattle.iom_device_dir.specs.declared.stages.FirstStage.{FirstStage}
 use Rattle.iom_device_dir.specs.declared.stages.FirstStage.TheVariants as first
 use Rattle.iom_device_dir.specs.declared.stages.SecondStage.{SecondStage}
 use Rattle.iom_device_dir.specs.declared.stages.SecondStage.TheVariants as second
-use Rattle.iom_hardware_session.specs.Ready.{context_found, IsReady, ReadyIsWrong}
+use Rattle.iom_hardware_session.specs.Ready.{IsReady, ReadyIsWrong}
 use Rattle.iom_hardware_session.specs.declared.answer.Found.{Found}
 use Rattle.iom_hardware_session.specs.declared.answer.Wrong.TheVariants.{NotReady}
 use Rattle.iom_iommu.specs.Requests.{ServesRequest}
 use Rattle.iom_ledger.specs.History.{Holds}
+use Rattle.iom_pointed_board.specs.Roots.{context_found}
 use Rattle.iom_stage_walk.specs.Paths.{IsInMemory}
 use Rattle.iom_stage_walk.specs.declared.walked.WalkFault.{WalkFault}
 use Rattle.iom_tlb.specs.Content.{Translations}

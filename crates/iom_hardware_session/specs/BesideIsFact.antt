@@ -8,6 +8,8 @@ use Rattle.iom_base.specs.declared.access.AccessKind.TheVariants.{Read, Write}
 use Rattle.iom_block_devices.specs.Shown.{ShownBlock}
 use Rattle.iom_board.specs.BoardParts.{BoardParts}
 use Rattle.iom_hardware_session.specs.Beside.{AreSoundBeside, WalksAreSound}
+use Rattle.iom_hardware_session.specs.declared.beside.Beside.{Beside}
+use Rattle.iom_hardware_session.specs.declared.beside.Beside.TheVariants as beside
 use Rattle.iom_inflight.specs.Invariant.{CarriesBytes}
 use Rattle.iom_stepped_requests.specs.declared.request.Answer.{Answer}
 use Rattle.iom_stepped_requests.specs.declared.request.Answer.TheVariants.{AsItIs, Cached, Reaches, Faults}
@@ -60,6 +62,7 @@ kind_prop request (Served answer) = hlevel props
 sound_beside_prop : (parts : BoardParts) (blocks : List ShownBlock) (rows : List WalkRow) → IsProp (AreSoundBeside parts blocks rows)
 sound_beside_prop parts blocks rows = hlevel (props, distinct_prop, rows_prop, kind_prop)
 
-pub walks_are_sound_prop : (parts : BoardParts) (blocks : List ShownBlock) (walks : Option (List WalkRow)) → IsProp (WalksAreSound parts blocks walks)
-walks_are_sound_prop parts blocks None = Unit-prop
-walks_are_sound_prop parts blocks (Some rows) = sound_beside_prop parts blocks rows
+pub walks_are_sound_prop : (parts : BoardParts) (blocks : List ShownBlock) (own : Beside) → IsProp (WalksAreSound parts blocks own)
+walks_are_sound_prop parts blocks beside.Nothing = Unit-prop
+walks_are_sound_prop parts blocks (beside.UnderWay rows) = sound_beside_prop parts blocks rows
+walks_are_sound_prop parts blocks (beside.Pointers pointers) = Unit-prop

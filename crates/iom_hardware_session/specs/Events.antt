@@ -66,7 +66,7 @@ pub record Unchanged (old new : ShownHardware) : Type 0 where
   pub parts : board_parts new.board ≡ board_parts old.board
   pub disks : disks_at_hand new.board ≡ disks_at_hand old.board
   pub blocks : BlocksUnchanged old.inside new.inside
-  pub walks : new.walks ≡ old.walks
+  pub beside : new.beside ≡ old.beside
 
 -- memory alone changes
 abbrev pub MemoryChanges : ShownHardware → ShownHardware → Type 0

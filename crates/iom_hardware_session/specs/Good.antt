@@ -1,25 +1,37 @@
 -- What it means that a claim is good.
-use Rattle.std.specs.Prelude.{◌≡◌, ℕ, List, Contains, ⊤}
+use Rattle.std.specs.Prelude.{◌≡◌, ℕ, Bool, List, Contains, ⊤}
 use Rattle.iom_base.specs.declared.access.AccessKind.{AccessKind}
 use Rattle.iom_claims.specs.Claimed.{Claimed, IsHeld, IsOpen}
 use Rattle.iom_claims.specs.declared.grant.Grant.{Grant}
 use Rattle.iom_claims.specs.declared.grant.OpenClaim.{OpenClaim}
-use Rattle.iom_board.specs.BoardParts.{board_parts}
+use Rattle.iom_board.specs.BoardParts.{BoardParts, board_parts}
 use Rattle.iom_hardware_script.specs.declared.script.Claim.{Claim as Said}
 use Rattle.iom_hardware_script.specs.declared.script.Claim.TheVariants as claim
+use Rattle.iom_hardware_session.specs.declared.beside.Beside.{Beside}
+use Rattle.iom_hardware_session.specs.declared.beside.Beside.TheVariants.{Nothing, UnderWay, Pointers}
 use Rattle.iom_hardware_session.specs.declared.state.Session.{Session}
 use Rattle.iom_hardware_session.specs.Ready.{IsReady}
+use Rattle.iom_hardware_session.specs.ReadyPointed.{ArePointersReady}
 use Rattle.iom_hardware_session.specs.Shown.{ShownHardware, shown_in}
+use Rattle.iom_hardware_ways.specs.Scenes.{scene_of}
 use Rattle.iom_ledger.specs.History.{May}
+use Rattle.iom_pointer_ways.specs.Scenes.{pointed_scene}
 use Rattle.iom_reach.specs.Laws.{IsOutOfReach}
 use Rattle.iom_reach.specs.Safe.{IsRead, IsSafe, AreTimely, HasWord}
 use Rattle.iom_reach.specs.Scene.{HardwareScene}
 use Rattle.iom_reach.specs.Ways.{Way}
-use Rattle.iom_way_survey.specs.Surveys.{is_id_among, scene_beside}
+use Rattle.iom_stepped_ways.specs.Scenes.{stepped_scene}
+use Rattle.iom_way_survey.specs.Surveys.{is_id_among}
 
--- what lies between devices and memory, also by what is under way, where these devices are trusted with all memory
+-- what lies between devices and memory, also by what hardware keeps beside them
+abbrev pub scene_by : (ℕ → Bool) → BoardParts → Beside → HardwareScene
+scene_by trusted parts Nothing = scene_of trusted parts
+scene_by trusted parts (UnderWay rows) = stepped_scene trusted parts rows
+scene_by trusted parts (Pointers pointers) = pointed_scene trusted parts pointers
+
+-- so where these devices are trusted with all memory
 abbrev pub scene_with : ShownHardware → List ℕ → HardwareScene
-scene_with hardware trusted = scene_beside (is_id_among trusted) (board_parts hardware.board) hardware.walks
+scene_with hardware trusted = scene_by (is_id_among trusted) (board_parts hardware.board) hardware.beside
 
 abbrev pub scene_in : Session → HardwareScene
 scene_in session = scene_with (shown_in session) session.trusted.items
@@ -57,6 +69,6 @@ GoodMeans (claim.Done number) hardware trusted before after = DoneIsGood (scene_
 GoodMeans (claim.HandOff frame) hardware trusted before after = HandOffIsGood (scene_with hardware trusted) before frame
 GoodMeans (claim.Take frame) hardware trusted before after = IsNobodys before frame
 GoodMeans (claim.Grant device page frame rights) hardware trusted before after = IsUnused (scene_with hardware trusted) frame
-GoodMeans (claim.Ready device page) hardware trusted before after = IsReady hardware.board before device page
+GoodMeans (claim.Ready device page) hardware trusted before after = IsReady hardware.board before device page × ArePointersReady hardware before device page
 GoodMeans (claim.Release device page) hardware trusted before after = ⊤
 GoodMeans (claim.Trust device) hardware trusted before after = ⊤

@@ -1,10 +1,12 @@
 -- What follows of a claim that is good: the reclaim theorem of somebody else's driver.
-use Rattle.std.specs.Prelude.{◌≡◌, ℕ, Bool, List, Option, None, Some, Ok}
+use Rattle.std.specs.Prelude.{◌≡◌, ℕ, Bool, List, None, Some, Ok}
 use Rattle.iom_claims.specs.Claimed.{Claimed, IsOpen, after_done}
 use Rattle.iom_claims.specs.declared.grant.Grant.{Grant}
 use Rattle.iom_board.specs.BoardParts.{BoardParts, board_parts}
 use Rattle.iom_board.specs.Commits.{CommitsOldestAccess}
 use Rattle.iom_hardware_script.specs.declared.script.Claim.TheVariants as claim
+use Rattle.iom_hardware_session.specs.declared.beside.Beside.{Beside}
+use Rattle.iom_hardware_session.specs.declared.beside.Beside.TheVariants.{Nothing, UnderWay, Pointers}
 use Rattle.iom_hardware_session.specs.declared.state.Session.{Session}
 use Rattle.iom_hardware_session.specs.declared.watched.GoodClaim.{GoodClaim}
 use Rattle.iom_hardware_session.specs.declared.watched.GoodClaim.TheVariants as good
@@ -15,6 +17,8 @@ use Rattle.iom_hardware_ways.specs.Calls.{HardwareCall, DoInTurn}
 use Rattle.iom_hardware_ways.specs.Laws.{MakesIn}
 use Rattle.iom_inflight.specs.declared.made.MadeAt.{MadeAt}
 use Rattle.iom_ledger.specs.History.{May}
+use Rattle.iom_pointer_ways.specs.Calls.{PointedCall, DoPointedInTurn}
+use Rattle.iom_pointers.specs.declared.pointer.Pointer.{Pointer}
 use Rattle.iom_stepped_ways.specs.Calls.{SteppedCall, DoSteppedInTurn}
 use Rattle.iom_walks.specs.Walks.{WalkRow}
 use Rattle.iom_way_survey.specs.Surveys.{is_id_among}
@@ -30,14 +34,21 @@ ComesFromWalks trusted parts rows calls id made =
     (events : ℕ) × (between : BoardParts) × (between_rows : List WalkRow) × (new : BoardParts)
     × DoSteppedInTurn trusted events parts rows calls between between_rows × CommitsOldestAccess between id (Ok (Some made)) new
 
+-- the same where it caches these pointers to tables
+abbrev pub ComesFromPointers : (ℕ → Bool) → BoardParts → List Pointer → List PointedCall → ℕ → MadeAt → Type 0
+ComesFromPointers trusted parts pointers calls id made =
+    (events : ℕ) × (between : BoardParts) × (between_pointers : List Pointer) × (new : BoardParts)
+    × DoPointedInTurn trusted events parts pointers calls between between_pointers × CommitsOldestAccess between id (Ok (Some made)) new
+
 -- WHAT MAY COME from there: after some calls of hardware and devices alone the device makes this access
-abbrev pub Comes : (ℕ → Bool) → BoardParts → Option (List WalkRow) → ℕ → MadeAt → Type 0
-Comes trusted parts None id made = (calls : List HardwareCall) × ComesFromParts trusted parts calls id made
-Comes trusted parts (Some rows) id made = (calls : List SteppedCall) × ComesFromWalks trusted parts rows calls id made
+abbrev pub Comes : (ℕ → Bool) → BoardParts → Beside → ℕ → MadeAt → Type 0
+Comes trusted parts Nothing id made = (calls : List HardwareCall) × ComesFromParts trusted parts calls id made
+Comes trusted parts (UnderWay rows) id made = (calls : List SteppedCall) × ComesFromWalks trusted parts rows calls id made
+Comes trusted parts (Pointers pointers) id made = (calls : List PointedCall) × ComesFromPointers trusted parts pointers calls id made
 
 -- so from where the session stands
 abbrev pub ComesToMake : Session → ℕ → MadeAt → Type 0
-ComesToMake session id made = Comes (is_id_among session.trusted.items) (board_parts session.hardware.board) session.walks id made
+ComesToMake session id made = Comes (is_id_among session.trusted.items) (board_parts session.hardware.board) session.beside id made
 
 -- WHAT WAS WITHDRAWN IS OUT OF REACH. After a claim is done and good, the device makes no access to that frame but those that what is claimed allows
 abbrev pub DoneStaysDone : Type 0

@@ -5,12 +5,15 @@ pub mod Shown
 pub mod Answered
 pub mod Events
 pub mod EventsBeside
+pub mod EventsPointed
 pub mod Paces
 pub mod Claiming
 pub mod Admitted
 pub mod Timely
 pub mod Ready
+pub mod ReadyPointed
 pub mod Accepted
+pub mod AcceptedPointed
 pub mod Good
 pub mod Wrong
 pub mod Watching

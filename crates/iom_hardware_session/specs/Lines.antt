@@ -41,7 +41,7 @@ KeepsClaims old new = (new.claims ≡ old.claims) × (new.trusted ≡ old.truste
 
 -- hardware stays with what is under way, and who is trusted
 abbrev pub KeepsHardware : Session → Session → Type 0
-KeepsHardware old new = (new.hardware ≡ old.hardware) × (new.walks ≡ old.walks) × (new.trusted ≡ old.trusted)
+KeepsHardware old new = (new.hardware ≡ old.hardware) × (new.beside ≡ old.beside) × (new.trusted ≡ old.trusted)
 
 -- all stays but what was last looked at
 abbrev pub KeepsAll : Session → Session → Type 0
@@ -71,7 +71,7 @@ WritesWhere true offset width value old answer new = (answer ≡ answered.Writte
 WritesWhere false offset width value old answer new =
     (answer ≡ answered.Written (done_of (register_at offset (short_width width))))
     × (board_parts new.board ≡ record (board_parts old.board) { iommu = changed_by (after_write old.board.iommu) old.board.iommu value (register_at offset (short_width width)) })
-    × (disks_at_hand new.board ≡ disks_at_hand old.board) × BlocksUnchanged old.inside new.inside × (new.walks ≡ old.walks)
+    × (disks_at_hand new.board ≡ disks_at_hand old.board) × BlocksUnchanged old.inside new.inside × (new.beside ≡ old.beside)
 
 -- THE DRIVER WRITES a register
 abbrev pub WritesRegister : (offset width value : ℕ) → ShownHardware → Answer → ShownHardware → Type 0
@@ -90,7 +90,7 @@ Trusts said answer old new = new ≡ old
 -- WHAT A LINE DOES TO HARDWARE, by its answer
 abbrev pub LineEffect : HardwareLine → Answer → ShownHardware → ShownHardware → Type 0
 LineEffect (line.Event event) answer old new = EventOrNone event answer old new
-LineEffect (line.Load device) answer old new = LoadsBy old.walks device answer old new
+LineEffect (line.Load device) answer old new = LoadsBy old.beside device answer old new
 LineEffect (line.RegisterRead offset width) answer old new = ReadsRegister offset width old.board answer × Unchanged old new
 LineEffect (line.RegisterWrite offset width value) answer old new = WritesRegister offset width value old answer new
 LineEffect (line.Claim said) answer old new = Unchanged old new

@@ -5,41 +5,52 @@ use Rattle.iom_base.specs.declared.refusal.Refusal.TheVariants.{NoSuchDevice}
 use Rattle.iom_device.specs.Caches.{kind_in}
 use Rattle.iom_hardware_script.specs.Grammar.{is_of_hardware, IsOfHardware}
 use Rattle.iom_hardware_script.specs.declared.script.Pace.{Pace}
-use Rattle.iom_hardware_script.specs.declared.script.Pace.TheVariants.{Whole, Stepped}
-use Rattle.iom_iommu.specs.declared.begun.Load.TheVariants.{Nothing}
+use Rattle.iom_hardware_script.specs.declared.script.Pace.TheVariants.{Whole, Stepped, Pointed}
+use Rattle.iom_iommu.specs.declared.begun.Load.TheVariants as load
 use Rattle.iom_machine.specs.declared.event.Event.{Event}
 use Rattle.iom_hardware_session.specs.Events.{EventEffect, IsForeign, Unchanged}
 use Rattle.iom_hardware_session.specs.EventsBeside.{EffectBeside, LoadsBeside}
+use Rattle.iom_hardware_session.specs.EventsPointed.{EffectPointed}
 use Rattle.iom_hardware_session.specs.Shown.{ShownHardware}
 use Rattle.iom_hardware_session.specs.declared.answer.Answer.{Answer}
+use Rattle.iom_hardware_session.specs.declared.beside.Beside.{Beside}
+use Rattle.iom_hardware_session.specs.declared.beside.Beside.TheVariants.{Nothing, UnderWay, Pointers}
 use Rattle.iom_hardware_session.specs.declared.answer.Answer.TheVariants as answered
+use Rattle.iom_pointers.specs.declared.pointer.Pointer.{Pointer}
 use Rattle.iom_walks.specs.Walks.{WalkRow}
 
--- nothing is under way at power-on, where a walk takes several events; and never, where it takes one
-abbrev pub walks_at_power_on : Pace → Option (List WalkRow)
-walks_at_power_on Whole = None
-walks_at_power_on Stepped = Some []
+-- nothing is under way at power-on, where a walk takes several events; and no pointer is cached
+abbrev pub beside_at_power_on : Pace → Beside
+beside_at_power_on Whole = Nothing
+beside_at_power_on Stepped = UnderWay []
+beside_at_power_on Pointed = Pointers []
 
 -- something leaves hardware with these under way, and this is so of them
 abbrev pub LeavesUnderWay : (List WalkRow → Type 0) → ShownHardware → Type 0
-LeavesUnderWay Are new = (rows : List WalkRow) × (new.walks ≡ Some rows) × Are rows
+LeavesUnderWay Are new = (rows : List WalkRow) × (new.beside ≡ UnderWay rows) × Are rows
 
--- WHAT AN EVENT OF HARDWARE DOES, by what is under way before it
-abbrev pub EventBy : Option (List WalkRow) → Event → Answer → ShownHardware → ShownHardware → Type 0
-EventBy None event answer old new = EventEffect event answer old new × (new.walks ≡ None)
-EventBy (Some rows) event answer old new = LeavesUnderWay (λ new_rows. EffectBeside event answer old rows new new_rows) new
+-- something leaves hardware with these pointers, and this is so of them
+abbrev pub LeavesPointers : (List Pointer → Type 0) → ShownHardware → Type 0
+LeavesPointers Are new = (pointers : List Pointer) × (new.beside ≡ Pointers pointers) × Are pointers
+
+-- WHAT AN EVENT OF HARDWARE DOES, by what there is beside it before
+abbrev pub EventBy : Beside → Event → Answer → ShownHardware → ShownHardware → Type 0
+EventBy Nothing event answer old new = EventEffect event answer old new × (new.beside ≡ Nothing)
+EventBy (UnderWay rows) event answer old new = LeavesUnderWay (λ new_rows. EffectBeside event answer old rows new new_rows) new
+EventBy (Pointers pointers) event answer old new = LeavesPointers (λ new_pointers. EffectPointed event answer old pointers new new_pointers) new
 
 -- so of any event
 abbrev pub EventOrNone : Event → Answer → ShownHardware → ShownHardware → Type 0
 EventOrNone event answer old new =
-    (IsOfHardware event → EventBy old.walks event answer old new) × (is_of_hardware event ≡ false → IsForeign answer old new)
+    (IsOfHardware event → EventBy old.beside event answer old new) × (is_of_hardware event ≡ false → IsForeign answer old new)
 
 -- where a walk is one event, no request of a device is under way
 abbrev pub nothing_of : Option DeviceKind → Answer
 nothing_of None = answered.WalkLoad (Err NoSuchDevice)
-nothing_of (Some kind) = answered.WalkLoad (Ok Nothing)
+nothing_of (Some kind) = answered.WalkLoad (Ok load.Nothing)
 
 -- WHAT THE NEXT LOAD of a device's walk does
-abbrev pub LoadsBy : Option (List WalkRow) → ℕ → Answer → ShownHardware → ShownHardware → Type 0
-LoadsBy None device answer old new = (answer ≡ nothing_of (kind_in old.board.devices.items device)) × Unchanged old new
-LoadsBy (Some rows) device answer old new = LeavesUnderWay (λ new_rows. LoadsBeside device answer old rows new new_rows) new
+abbrev pub LoadsBy : Beside → ℕ → Answer → ShownHardware → ShownHardware → Type 0
+LoadsBy Nothing device answer old new = (answer ≡ nothing_of (kind_in old.board.devices.items device)) × Unchanged old new
+LoadsBy (UnderWay rows) device answer old new = LeavesUnderWay (λ new_rows. LoadsBeside device answer old rows new new_rows) new
+LoadsBy (Pointers pointers) device answer old new = (answer ≡ nothing_of (kind_in old.board.devices.items device)) × Unchanged old new

@@ -20,6 +20,7 @@ use Rattle.iom_hardware_session.specs.Found.{frame_found}
 use Rattle.iom_iommu.specs.Parts.{translations_of}
 use Rattle.iom_iommu.specs.Service.{cached_for}
 use Rattle.iom_ledger.specs.History.{Holds}
+use Rattle.iom_pointed_board.specs.Roots.{context_found}
 use Rattle.iom_registers.specs.declared.directory.DirectoryMode.{DirectoryMode}
 use Rattle.iom_registers.specs.declared.directory.DirectoryMode.TheVariants as mode
 use Rattle.iom_stage_walk.specs.Paths.{ReachesFirst, StopsFirst}
@@ -29,7 +30,7 @@ use Rattle.iom_stage_walk.specs.declared.walked.WalkFault.{WalkFault}
 use Rattle.iom_tlb.specs.declared.space.Space.{Space}
 use Rattle.iom_tlb.specs.declared.trans_cache.Translation.{Translation}
 use Rattle.iom_tlb.specs.declared.space.Space.TheVariants as space
-use Rattle.iom_way_survey.specs.Found.{cached_found, mode_in, stored_found}
+use Rattle.iom_way_survey.specs.Found.{mode_in}
 
 -- WALKS
 
@@ -71,14 +72,6 @@ looked_space first.Bare second.Bare context = None
 looked_space (first.Tables size root) second.Bare context = Some (space.First context.pscid.number)
 looked_space first.Bare (second.Tables size root) context = Some (space.Second context.gscid)
 looked_space (first.Tables first_size first_root) (second.Tables second_size second_root) context = None
-
--- the context of the device: the one that is cached, or else the one that the directory has
-abbrev pub cached_or : Option Context → Option Context → Option Context
-cached_or None stored = stored
-cached_or (Some context) stored = Some context
-
-abbrev pub context_found : BoardParts → ℕ → Option Context
-context_found parts id = cached_or (cached_found parts id) (stored_found parts id)
 
 -- a cached translation of which the right allows the access, or else what the walk finds
 abbrev pub LookFinds : Space → Option Translation → (Found → Type 0) → Found → Type 0

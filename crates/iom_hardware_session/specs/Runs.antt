@@ -13,7 +13,7 @@ use Rattle.iom_hardware_session.specs.declared.answer.ClaimAnswer.TheVariants as
 use Rattle.iom_hardware_session.specs.declared.session.Stepped.{Stepped}
 use Rattle.iom_hardware_session.specs.declared.state.Session.{Session}
 use Rattle.iom_hardware_session.specs.declared.watched.Watched.{Watched}
-use Rattle.iom_hardware_session.specs.Paces.{walks_at_power_on}
+use Rattle.iom_hardware_session.specs.Paces.{beside_at_power_on}
 use Rattle.iom_hardware_session.specs.Shown.{shown_in}
 use Rattle.iom_program_disks.specs.Disks.{program_disks}
 use Rattle.iom_virtio_blk.specs.MemoryDisks.{disk_state}
@@ -76,7 +76,7 @@ is_any_reply_wrong all = list_any is_wrong all
 -- trusted, nothing watched
 pub record IsSessionAtPowerOn (setup : Setup) (session : Session) : Type 0 where
   pub power_on : IsHardwareAtPowerOn setup.frames program_disks session.hardware.board (inside disk_state session.hardware)
-  pub walks : session.walks ≡ walks_at_power_on setup.pace
+  pub beside : session.beside ≡ beside_at_power_on setup.pace
   pub claims : ShowsClaimed session.claims nothing_claimed
   pub trusted : session.trusted.items ≡ []
   pub watched : session.watched.items ≡ []

@@ -106,6 +106,8 @@ pub enum Found {
     Walk { frame: u64 },
     /// A translation that is cached in the address space has this frame.
     Cached { space: Space, frame: u32 },
+    /// A walk that begins at a cached pointer of the address space leads to this frame.
+    Pointed { space: Space, frame: u32 },
 }
 
 impl Found {
@@ -123,7 +125,9 @@ impl Found {
         match self {
             Found::NoContext | Found::Fault(_) => None,
             Found::Walk { frame } => Some(frame),
-            Found::Cached { space: _, frame } => Some(u64::from(frame)),
+            Found::Cached { space: _, frame } | Found::Pointed { space: _, frame } => {
+                Some(u64::from(frame))
+            }
         }
     }
 }

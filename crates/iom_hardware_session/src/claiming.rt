@@ -1,5 +1,7 @@
 // What the driver claims, and what is found of it.
-ghost use Rattle.std.specs.Prelude.{◌≡◌, ◌<◌, ◌≤◌, ◌^◌, length, IfOk, IfErr, OnOk, OnErr};
+ghost use Rattle.std.specs.Prelude.{◌≡◌, ◌⊎◌, ◌<◌, ◌≤◌, ◌^◌, true, length, IfOk, IfErr, IfSome, IfNone, OnOk, OnErr};
+ghost use Rattle.iom_base.specs.Rights.{allows};
+ghost use Rattle.iom_board.specs.BoardParts.{board_parts};
 ghost use Rattle.iom_claims.specs.Claimed.{Claimed};
 ghost use Rattle.iom_claims.specs.Shown.{ShowsClaimed};
 ghost use Rattle.iom_hardware_script.specs.declared.script.Claim.{Claim as Said};
@@ -8,21 +10,45 @@ ghost use Rattle.iom_hardware_session.specs.Admitted.{IsDeviceKnown, ClaimIsAdmi
 ghost use Rattle.iom_hardware_session.specs.Claiming.{claimed_after};
 ghost use Rattle.iom_hardware_session.specs.Good.{GoodMeans};
 ghost use Rattle.iom_hardware_session.specs.Ready.{IsReady, ReadyIsWrong};
+ghost use Rattle.iom_hardware_session.specs.ReadyPointed.{ArePointersReady, IsUnreadyByPointer, PointersLead, PointersLeadAstray};
 ghost use Rattle.iom_hardware_session.specs.Lines.{KeepsHardware, KeepsAll, TrustsAlso};
 ghost use Rattle.iom_hardware_session.specs.Shown.{shown_in};
 ghost use Rattle.iom_hardware_session.specs.Watching.{WatchesClaim};
 ghost use Rattle.iom_hardware_session.specs.Wrong.{IfWrong, WrongMeans};
 
 use crate::answer::{ClaimAnswer, Wrong};
-use crate::ready::unreadiness;
+use crate::beside::Beside;
+use crate::ready::{unreadiness, unreadiness_by_pointer};
 use crate::state::Session;
 use crate::watched::{GoodClaim, drop_hand_off, watch};
-use iom_base::{DeviceId, GrantRights, Refusal};
+use iom_base::{AccessKind, DeviceId, GrantRights, Refusal, Rights};
+use iom_board::Board;
 use iom_claims::{Grant, NoSuchClaim};
 use iom_phys_mem::Bytes;
 
 /// The pages of the 64-bit address space.
 const PAGES: u64 = 1 << 52;
+
+/// What a request at the page finds from a cached pointer, where hardware caches any, and it isn't the frame with the right.
+fn unreadiness_beside(
+    hardware: &Board,
+    beside: &Beside,
+    device: DeviceId,
+    page: u64,
+    frame: u32,
+    rights: Rights,
+) -> Option<Wrong>
+    ensures some { IfSome result (PointersLeadAstray beside.now (board_parts hardware.now) device page frame rights) }
+    ensures none { IfNone result ((kind : AccessKind) → allows rights kind ≡ true
+        → PointersLead beside.now (board_parts hardware.now) device page frame kind) }
+{
+    match beside {
+        Beside::Pointers(pointers) => {
+            unreadiness_by_pointer(hardware, pointers, device, page, frame, rights)
+        }
+        Beside::Nothing | Beside::UnderWay(_) => None,
+    }
+}
 
 impl Session {
     /// The number of a frame of memory.
@@ -233,9 +259,10 @@ impl Session {
 
     /// A request of the device at the page is accepted now, on what it holds there.
     pub(crate) fn claim_ready(&mut self, device: DeviceId, page: u64) -> ClaimAnswer
-        ensures good { (c : Claimed) → ShowsClaimed self.old.claims c → result ≡ ClaimAnswer.Good → IsReady self.new.hardware.board c device page }
+        ensures good { (c : Claimed) → ShowsClaimed self.old.claims c → result ≡ ClaimAnswer.Good
+            → IsReady self.new.hardware.board c device page × ArePointersReady (shown_in self.new) c device page }
         ensures wrong { (c : Claimed) → ShowsClaimed self.old.claims c
-            → IfWrong result (λ why. ReadyIsWrong why self.new.hardware.board c device page) }
+            → IfWrong result (λ why. ReadyIsWrong why self.new.hardware.board c device page ⊎ IsUnreadyByPointer (shown_in self.new) c device page why) }
         ensures admitted { (c : Claimed) → ShowsClaimed self.old.claims c → ClaimIsAdmitted (said.Ready device page) result self.old.hardware.board c }
         ensures rest { KeepsAll self.old self.new }
     {
@@ -245,7 +272,11 @@ impl Session {
         let Some((frame, rights)) = self.claims.held_at(device, page) else {
             return ClaimAnswer::Refused(Refusal::NotGranted);
         };
-        match unreadiness(&self.hardware.board, device, page, frame, rights) {
+        let board = &self.hardware.board;
+        if let Some(why) = unreadiness(board, device, page, frame, rights) {
+            return ClaimAnswer::Wrong(why);
+        }
+        match unreadiness_beside(board, &self.beside, device, page, frame, rights) {
             Some(why) => ClaimAnswer::Wrong(why),
             None => ClaimAnswer::Good,
         }
@@ -259,7 +290,7 @@ impl Session {
         ensures trusted { TrustsAlso device result self.old.trusted.items self.new.trusted.items }
         ensures admitted { (c : Claimed) → ShowsClaimed self.old.claims c → ClaimIsAdmitted (said.Trust device) result self.old.hardware.board c }
         ensures hardware { self.new.hardware ≡ self.old.hardware }
-        ensures walks { self.new.walks ≡ self.old.walks }
+        ensures beside { self.new.beside ≡ self.old.beside }
     {
         if self.hardware.board.kind_of(device).is_none() {
             return ClaimAnswer::Refused(Refusal::NoSuchDevice);

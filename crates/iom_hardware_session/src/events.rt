@@ -5,8 +5,9 @@ ghost use Rattle.iom_hardware_session.specs.Paces.{EventOrNone, LoadsBy};
 ghost use Rattle.iom_hardware_session.specs.Shown.{shown_in};
 
 use crate::answer::Answer;
+use crate::beside::Beside;
 use crate::state::Session;
-use crate::{stepped_events, whole_events};
+use crate::{pointed_events, stepped_events, whole_events};
 use iom_base::{DeviceId, Refusal};
 use iom_iommu::Load;
 use iom_machine::Event;
@@ -19,25 +20,30 @@ impl Session {
         ensures claims { KeepsClaims self.old self.new }
         ensures counted { self.new.hardware.board.events ≤ self.old.hardware.board.events + 1 }
     {
-        match &mut self.walks {
-            None => whole_events::event(&mut self.hardware, event),
-            Some(walks) => stepped_events::event(&mut self.hardware, walks, event),
+        match &mut self.beside {
+            Beside::Nothing => whole_events::event(&mut self.hardware, event),
+            Beside::UnderWay(walks) => stepped_events::event(&mut self.hardware, walks, event),
+            Beside::Pointers(pointers) => pointed_events::event(
+                &mut self.hardware,
+                pointers,
+                event,
+            ),
         }
     }
 
     /// The next load of the device's walk, if one is under way.
     pub(crate) fn load_next(&mut self, device: DeviceId) -> Answer
         requires count { self.old.hardware.board.events + 1 < 2 ^ 64 }
-        ensures effect { LoadsBy self.old.walks device result (shown_in self.old) (shown_in self.new) }
+        ensures effect { LoadsBy self.old.beside device result (shown_in self.old) (shown_in self.new) }
         ensures claims { KeepsClaims self.old self.new }
         ensures counted { self.new.hardware.board.events ≤ self.old.hardware.board.events + 1 }
     {
-        match &mut self.walks {
-            None => match self.hardware.board.kind_of(device) {
+        match &mut self.beside {
+            Beside::UnderWay(walks) => stepped_events::load(&mut self.hardware, walks, device),
+            Beside::Nothing | Beside::Pointers(_) => match self.hardware.board.kind_of(device) {
                 None => Answer::WalkLoad(Err(Refusal::NoSuchDevice)),
                 Some(_) => Answer::WalkLoad(Ok(Load::Nothing)),
             },
-            Some(walks) => stepped_events::load(&mut self.hardware, walks, device),
         }
     }
 }

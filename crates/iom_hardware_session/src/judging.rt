@@ -1,12 +1,16 @@
 // What is found of a claim, as hardware stands.
-ghost use Rattle.std.specs.Prelude.{◌≡◌, ◌↔◌, ◌<◌, true, false, length, None, IfSome, IsTrue};
+ghost use Rattle.std.specs.Prelude.{◌≡◌, ◌↔◌, ◌<◌, ◌≤◌, true, false, List, length, None, IfSome, IsTrue};
 ghost use Rattle.iom_base.specs.declared.access.AccessKind.{AccessKind};
 ghost use Rattle.iom_claims.specs.Claimed.{Claimed};
 ghost use Rattle.iom_claims.specs.Shown.{ShowsClaimed};
 ghost use Rattle.iom_fabric.specs.declared.fabric.OnLink.{OnLink};
 ghost use Rattle.iom_board.specs.BoardParts.{board_parts};
 ghost use Rattle.iom_hardware_session.specs.Claiming.{is_judgement};
-ghost use Rattle.iom_hardware_session.specs.Good.{scene_in, IsCertain, IsNobodys, IsUnused, HasClaimedWaysAlone};
+ghost use Rattle.iom_board.specs.Invariant.{BoardInvariant};
+ghost use Rattle.iom_hardware_session.specs.declared.beside.Beside.TheVariants.{UnderWay};
+ghost use Rattle.iom_stepped_board.specs.Beside.{AreBeside};
+ghost use Rattle.iom_walks.specs.Walks.{WalkRow};
+ghost use Rattle.iom_hardware_session.specs.Good.{scene_by, scene_in, IsCertain, IsNobodys, IsUnused, HasClaimedWaysAlone};
 ghost use Rattle.iom_hardware_session.specs.Lines.{KeepsAll};
 ghost use Rattle.iom_hardware_session.specs.Shown.{shown_in};
 ghost use Rattle.iom_hardware_session.specs.Timely.{IsTimelyMessage};
@@ -16,13 +20,33 @@ ghost use Rattle.iom_reach.specs.Laws.{IsOutOfReach};
 ghost use Rattle.iom_reach.specs.Safe.{AreTimely};
 ghost use Rattle.iom_reach.specs.Scene.{HardwareScene};
 ghost use Rattle.iom_reach.specs.Ways.{Way};
-ghost use Rattle.iom_way_survey.specs.Surveys.{Surveys, InventsNone, IsSurveyOf, reaches_in_rows};
+ghost use Rattle.iom_way_survey.specs.Surveys.{Surveys, InventsNone, IsSurveyOf, is_id_among, reaches_in_rows};
 
 use crate::answer::{ClaimAnswer, Wrong};
+use crate::beside::Beside;
 use crate::state::Session;
 use iom_base::{AccessKind, DeviceId};
+use iom_board::Board;
 use iom_fabric::{Message, OnLink};
 use iom_phys_mem::{Bytes, MAX_FRAMES};
+use iom_way_survey::Survey;
+
+/// Looks at hardware, and at what it keeps beside.
+fn look_beside(survey: &mut Survey, hardware: &Board, beside: &Beside, trusted: &[DeviceId])
+    requires size { length hardware.now.memory ≤ 4096 }
+    requires invariants { BoardInvariant (board_parts hardware.now) hardware.now.events }
+    requires sound { (rows : List WalkRow) → beside.now ≡ UnderWay rows → AreBeside (board_parts hardware.now) rows }
+    ensures { IsSurveyOf survey.new (scene_by (is_id_among trusted.now) (board_parts hardware.now) beside.now) }
+{
+    match beside {
+        Beside::Nothing => survey.look(hardware, None, trusted),
+        Beside::UnderWay(walks) => survey.look(hardware, Some(walks), trusted),
+        Beside::Pointers(pointers) => {
+            survey.look(hardware, None, trusted);
+            survey.look_along(hardware, pointers);
+        }
+    }
+}
 
 impl Session {
     /// Looks by which ways each device can reach which frames, as hardware stands. False where memory has more frames than
@@ -35,8 +59,12 @@ impl Session {
         if self.hardware.board.memory.frames() > MAX_FRAMES {
             return false;
         }
-        self.survey
-            .look(&self.hardware.board, self.walks.as_ref(), &self.trusted);
+        look_beside(
+            &mut self.survey,
+            &self.hardware.board,
+            &self.beside,
+            &self.trusted,
+        );
         true
     }
 

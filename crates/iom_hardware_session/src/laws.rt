@@ -1,9 +1,11 @@
 //! What follows of a claim that is good.
 ghost use Rattle.iom_hardware_session.specs.Accepted.{ReadyIsAccepted, UnreadyIsNotAccepted};
+ghost use Rattle.iom_hardware_session.specs.AcceptedPointed.{AstrayIsNotAccepted, PointedReadyIsAccepted};
 ghost use Rattle.iom_hardware_session.specs.Laws.{DoneStaysDone, HandedOffStaysFree, GoodAgainHolds};
 ghost use Rattle.iom_hardware_session.specs.Sessions.{AccessesAreClaimed, DoneStaysOutOfReach, HandedOffStaysUntouched};
 
 use iom_hardware_ways::ways_law;
+use iom_pointer_ways::laws::pointed_ways_law;
 use iom_stepped_ways::{scene_law, stepped_ways_law};
 
 /// A claim that a withdrawal is done, and that is answered `Good`, stays true whatever hardware and devices do by
@@ -16,6 +18,7 @@ pub fn good_law()
     ways_law();
     scene_law();
     stepped_ways_law();
+    pointed_ways_law();
 }
 
 /// In a session of which nothing is wrong, line after line, no access was made against the claims (`accesses`), and at no
@@ -32,8 +35,15 @@ pub fn session_law()
 /// A device of which a claim `ready` is `Good` holds a frame at the page. Where that is a frame of memory, the IOMMU answers
 /// each of its untranslated requests at the page, for an access that its right allows, by this frame, as hardware stands
 /// (`accepted`). Where the claim is `Wrong`, it answers those of some kind that is allowed by no frame, or by another
-/// (`refused`). Both hold of a device whose context has tables in one stage at most. It does nothing.
+/// (`refused`). Both hold of a device whose context has tables in one stage at most.
+///
+/// Where hardware caches pointers to tables, a request may be walked ahead of its event, and what is found from a pointer
+/// is cached. Where the claim is `Good`, such a request is answered by the frame too (`ahead`). Where it is `Wrong` because
+/// a walk that begins at a pointer finds something else, those of some kind that is allowed are answered by no frame, or by
+/// another (`astray`). It does nothing.
 pub fn ready_law()
     ensures accepted { ReadyIsAccepted }
     ensures refused { UnreadyIsNotAccepted }
+    ensures ahead { PointedReadyIsAccepted }
+    ensures astray { AstrayIsNotAccepted }
 {}

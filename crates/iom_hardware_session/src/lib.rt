@@ -13,10 +13,12 @@
 #![tactic(auto)]
 
 mod answer;
+mod beside;
 mod claiming;
 mod events;
 mod judging;
 pub mod laws;
+mod pointed_events;
 mod ready;
 mod same;
 mod session;
@@ -28,6 +30,7 @@ mod watching;
 mod whole_events;
 
 pub use answer::{Answer, ClaimAnswer, Found, Wrong};
+pub use beside::Beside;
 pub use session::Stepped;
 pub use state::Session;
 pub use watched::{GoodClaim, Watched};

@@ -1,22 +1,22 @@
 // Whether a request of a device would be accepted now (IOMMU specification, section 2.3), found without a trace.
-ghost use Rattle.std.specs.Prelude.{◌≡◌, ◌≢◌, true, false, ℕ, option_map, Some, IfSome, IfNone};
+ghost use Rattle.std.specs.Prelude.{◌≡◌, true, Some, IfSome, IfNone};
 ghost use Rattle.iom_base.specs.Rights.{allows};
 ghost use Rattle.iom_board.specs.BoardParts.{board_parts};
-ghost use Rattle.iom_hardware_session.specs.Ready.{address_of, context_found, found_by_walk, looked_space, ContextFinds, FindsFrame, FindsInstead, FirstFinds, IsUnready, RequestFinds, StagesFind};
-ghost use Rattle.iom_iommu.specs.Service.{cached_for};
-ghost use Rattle.iom_tlb.specs.Ways.{content_of_sets};
-ghost use Rattle.iom_tlb.specs.declared.cached_page.CachedPage.{CachedPage};
-ghost use Rattle.iom_tlb.specs.declared.trans_cache.Translation.{Translation};
+ghost use Rattle.iom_hardware_session.specs.Ready.{address_of, found_by_walk, looked_space, ContextFinds, FindsFrame, FindsInstead, FirstFinds, IsUnready, RequestFinds, StagesFind};
+ghost use Rattle.iom_hardware_session.specs.ReadyPointed.{LeadsAstray, LeadsInstead, LeadsToFrame};
 
 use crate::answer::{Found, Wrong};
 use iom_base::{AccessKind, DeviceId, PAGE_SIZE, Rights};
 use iom_board::Board;
 use iom_device_dir::{Context, FirstStage, SecondStage};
 use iom_phys_mem::Memory;
+use iom_pointed_board::{cached_translation, context_of, start_of};
+use iom_pointers::Pointers;
 use iom_registers::DirectoryMode;
 use iom_stage_walk::{WalkFault, Walked, walk_first, walk_second};
-use iom_tlb::{CachedPage, Ioatc, PLACES, Space};
-use iom_way_survey::{cached_in, stored_in};
+use iom_stepped_requests::Request;
+use iom_stepped_walk::Asked;
+use iom_tlb::Space;
 
 impl Found {
     /// A walk that ended so.
@@ -27,16 +27,6 @@ impl Found {
             Ok(walked) => Found::by_walk(u64::from(walked.frame)),
             Err(fault) => Found::Fault(fault.cause),
         }
-    }
-}
-
-/// The context that a request of the device finds: the cached one, or the one in memory.
-fn context_of(hardware: &Board, device: DeviceId) -> Option<Context>
-    ensures { result ≡ context_found (board_parts hardware.now) device }
-{
-    match cached_in(hardware, device) {
-        Some(context) => Some(context),
-        None => stored_in(hardware, device),
     }
 }
 
@@ -87,38 +77,6 @@ fn stages_find(memory: &Memory, context: &Context, page: u64, kind: AccessKind) 
     }
 }
 
-/// The frame of what stands at a place of the cache, where that is of the page, and its right allows the access.
-fn frame_served(
-    cached: Option<CachedPage>,
-    space: Space,
-    page: u64,
-    kind: AccessKind,
-) -> Option<u32>
-    ensures some { IfSome result (λ frame. (own : CachedPage) × (cached ≡ Some own) × (own.space ≡ space) × (own.page ≡ page)
-        × (allows own.translation.rights kind ≡ true) × (frame ≡ own.translation.frame)) }
-    ensures none { IfNone result ((own : CachedPage) → cached ≡ Some own → own.space ≡ space → own.page ≡ page
-        → allows own.translation.rights kind ≡ false) }
-{
-    let own = cached?;
-    if own.space == space && own.page == page && own.translation.rights.allows(kind) {
-        return Some(own.translation.frame);
-    }
-    None
-}
-
-/// The frame that is cached for the page, with a right that allows the access.
-fn cached_frame(cache: &Ioatc, space: Space, page: u64, kind: AccessKind) -> Option<u32>
-    ensures { result ≡ option_map (λ (t : Translation). t.frame) (cached_for (content_of_sets cache.now (space, page)) kind) }
-{
-    cache.facts();
-    for place in 0..PLACES {
-        if let Some(frame) = frame_served(cache.page_at(place), space, page, kind) {
-            return Some(frame);
-        }
-    }
-    None
-}
-
 /// What it finds by the device's context: what is cached in the address space of its one stage, or else what the walk does.
 fn context_finds(hardware: &Board, found: Option<Context>, page: u64, kind: AccessKind) -> Found
     ensures { ContextFinds (board_parts hardware.now) found page kind result }
@@ -127,8 +85,11 @@ fn context_finds(hardware: &Board, found: Option<Context>, page: u64, kind: Acce
         return Found::NoContext;
     };
     if let Some(space) = space_of(&context) {
-        if let Some(frame) = cached_frame(hardware.iommu.translations(), space, page, kind) {
-            return Found::Cached { space, frame };
+        if let Some(cached) = cached_translation(hardware.iommu.translations(), space, page, kind) {
+            return Found::Cached {
+                space,
+                frame: cached.frame,
+            };
         }
     }
     stages_find(&hardware.memory, &context, page, kind)
@@ -201,6 +162,93 @@ pub(crate) fn unreadiness(
         return Some(Wrong::NotReady(found));
     }
     if let Some(found) = found_against(hardware, device, page, frame, rights, AccessKind::Write) {
+        return Some(Wrong::NotReady(found));
+    }
+    None
+}
+
+/// What a request finds whose walk begins at a cached pointer, where that isn't the frame.
+fn led_instead(
+    hardware: &Board,
+    pointers: &Pointers,
+    device: DeviceId,
+    page: u64,
+    frame: u32,
+    kind: AccessKind,
+) -> Option<Found>
+    ensures some { IfSome result (LeadsInstead (board_parts hardware.now) pointers.now device page frame kind) }
+    ensures none { IfNone result (LeadsToFrame (board_parts hardware.now) pointers.now device page frame kind) }
+{
+    // Of each key one pointer is cached, so a walk begins in one way alone.
+    pointers.facts();
+    let asked = Asked {
+        address: address_of(page),
+        kind,
+    };
+    let start = start_of(hardware, pointers, Request { device, asked })?;
+    let translation = start.found?;
+    if translation.frame == frame {
+        return None;
+    }
+    Some(Found::Pointed {
+        space: start.space,
+        frame: translation.frame,
+    })
+}
+
+/// What it finds from there where that isn't the frame, though the right allows the access.
+fn led_against(
+    hardware: &Board,
+    pointers: &Pointers,
+    device: DeviceId,
+    page: u64,
+    frame: u32,
+    rights: Rights,
+    kind: AccessKind,
+) -> Option<Found>
+    ensures some { IfSome result (λ found. (allows rights kind ≡ true) × LeadsInstead (board_parts hardware.now) pointers.now device page frame kind found) }
+    ensures none { IfNone result (allows rights kind ≡ true → LeadsToFrame (board_parts hardware.now) pointers.now device page frame kind) }
+{
+    if !rights.allows(kind) {
+        return None;
+    }
+    led_instead(hardware, pointers, device, page, frame, kind)
+}
+
+/// What a request at the page finds from a cached pointer, where it isn't the frame with the right: a read, and then a write,
+/// as far as the right allows them.
+pub(crate) fn unreadiness_by_pointer(
+    hardware: &Board,
+    pointers: &Pointers,
+    device: DeviceId,
+    page: u64,
+    frame: u32,
+    rights: Rights,
+) -> Option<Wrong>
+    ensures some { IfSome result (LeadsAstray (board_parts hardware.now) pointers.now device page frame rights) }
+    ensures none { IfNone result ((kind : AccessKind) → allows rights kind ≡ true
+        → LeadsToFrame (board_parts hardware.now) pointers.now device page frame kind) }
+{
+    if let Some(found) = led_against(
+        hardware,
+        pointers,
+        device,
+        page,
+        frame,
+        rights,
+        AccessKind::Read,
+    ) {
+        return Some(Wrong::NotReady(found));
+    }
+    if let Some(found) = led_against(
+        hardware,
+        pointers,
+        device,
+        page,
+        frame,
+        rights,
+        AccessKind::Write,
+    ) {
         return Some(Wrong::NotReady(found));
     }
     None

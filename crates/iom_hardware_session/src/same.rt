@@ -2,6 +2,7 @@
 ghost use Rattle.std.specs.Prelude.{◌≡◌, ◌↔◌, IsTrue};
 ghost use Rattle.iom_hardware_session.specs.Same.{IsSameSession};
 
+use crate::beside::Beside;
 use crate::state::Session;
 use crate::watched::Watched;
 use iom_base::DeviceId;
@@ -22,8 +23,8 @@ fn are_same_watched(watched: &[Watched], others: &[Watched]) -> bool
 
 impl Session {
     /// Whether the two are equal but for how many events there were, for what was last looked at, and for what is inside
-    /// block devices: then whatever lines go through both, but those of block devices, are answered alike. False where a
-    /// walk takes several events: what is under way isn't compared.
+    /// block devices: then whatever lines go through both, but those of block devices, are answered alike. False where
+    /// hardware keeps something beside, requests under way or pointers: these aren't compared.
     pub fn is_same(&self, other: &Session) -> bool
         ensures { IsTrue result ↔ IsSameSession self.now other.now }
     {
@@ -36,8 +37,9 @@ impl Session {
         if !self.claims.is_same(&other.claims) {
             return false;
         }
-        if self.walks.is_some() || other.walks.is_some() {
-            return false;
+        match (&self.beside, &other.beside) {
+            (Beside::Nothing, Beside::Nothing) => {}
+            _ => return false,
         }
         self.hardware.board.is_same(&other.hardware.board)
     }

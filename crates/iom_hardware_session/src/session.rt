@@ -10,8 +10,8 @@ ghost use Rattle.iom_hardware_session.specs.Claiming.{claimed_after};
 ghost use Rattle.iom_hardware_session.specs.Answered.{judgement_in};
 ghost use Rattle.iom_hardware_session.specs.Runs.{is_wrong_claim, has_fallen, is_wrong_by};
 ghost use Rattle.iom_hardware_session.specs.Good.{GoodMeans};
-ghost use Rattle.iom_hardware_session.specs.Paces.{walks_at_power_on};
-ghost use Rattle.iom_hardware_session.specs.Shown.{shown_in};
+ghost use Rattle.iom_hardware_session.specs.Paces.{beside_at_power_on};
+ghost use Rattle.iom_hardware_session.specs.Shown.{shown_in, walks_in, pointers_in};
 ghost use Rattle.iom_hardware_session.specs.Watching.{WatchesClaim};
 ghost use Rattle.iom_hardware_session.specs.Wrong.{IfWrong, WrongMeans};
 ghost use Rattle.iom_hardware_session.specs.Lines.{Trusts, LineEffect, TrustsBy, IsGoodLine, IsWrongLine, WatchesStep, WatchesBy, writes, is_of_software, claimed_by, made_by, IsViolation, IsAllowed, IsAdmittedLine};
@@ -20,6 +20,7 @@ ghost use Rattle.iom_virtio_blk.specs.MemoryDisks.{disk_state};
 ghost use Rattle.iom_way_survey.specs.Surveys.{IsConflict, IsConflictFree, is_id_among};
 
 use crate::answer::{Answer, ClaimAnswer};
+use crate::beside::Beside;
 use crate::state::Session;
 use crate::watched::{Watched, drop_fallen};
 use iom_base::{Access, AccessKind, DeviceId};
@@ -30,6 +31,7 @@ use iom_hardware_script::{Claim, HardwareLine, Pace, Setup};
 use iom_inflight::MadeAt;
 use iom_machine::Event;
 use iom_phys_mem::MemError;
+use iom_pointers::Pointers;
 use iom_program_disks::program_disks;
 use iom_stepped_hardware::laws::events_stay_beside;
 use iom_walks::Walks;
@@ -48,7 +50,7 @@ impl Session {
     /// under way and nothing claimed.
     pub fn new(alloc: Global, setup: Setup) -> Result<Session, MemError>
         ensures power_on { IfOk result (λ session. IsHardwareAtPowerOn setup.frames program_disks session.hardware.board (inside disk_state session.hardware)) }
-        ensures walks { IfOk result (λ session. session.walks ≡ walks_at_power_on setup.pace) }
+        ensures beside { IfOk result (λ session. session.beside ≡ beside_at_power_on setup.pace) }
         ensures claims { IfOk result (λ session. ShowsClaimed session.claims nothing_claimed) }
         ensures trusted { IfOk result (λ session. session.trusted.items ≡ []) }
         ensures watched { IfOk result (λ session. session.watched.items ≡ []) }
@@ -60,13 +62,13 @@ impl Session {
         let Ok(survey) = Survey::new(alloc) else {
             return Err(MemError::OutOfMemory);
         };
-        let Ok(walks) = walks_of(alloc, setup.pace) else {
+        let Ok(beside) = beside_of(alloc, setup.pace) else {
             return Err(MemError::OutOfMemory);
         };
         events_stay_beside();
         Ok(Session {
             hardware,
-            walks,
+            beside,
             claims: Claims::new(alloc),
             trusted: Vec::new(alloc),
             watched: Vec::new(alloc),
@@ -84,9 +86,22 @@ impl Session {
 
     /// The requests that are under way, where a walk takes several events.
     pub fn walks(&self) -> Option<&Walks>
-        ensures { option_map (λ w. w.now) result ≡ self.now.walks }
+        ensures { option_map (λ w. w.now) result ≡ walks_in self.now.beside }
     {
-        self.walks.as_ref()
+        match &self.beside {
+            Beside::UnderWay(walks) => Some(walks),
+            Beside::Nothing | Beside::Pointers(_) => None,
+        }
+    }
+
+    /// The pointers to tables that hardware caches; None where it caches none.
+    pub fn pointers(&self) -> Option<&Pointers>
+        ensures { option_map (λ p. p.now) result ≡ pointers_in self.now.beside }
+    {
+        match &self.beside {
+            Beside::Pointers(pointers) => Some(pointers),
+            Beside::Nothing | Beside::UnderWay(_) => None,
+        }
     }
 
     /// The access that the block device wants, or waits for where it began that. None where it wants none, or no block
@@ -123,7 +138,7 @@ impl Session {
         ensures admitted { (c : Claimed) → ShowsClaimed self.old.claims c → ClaimIsAdmitted claim result self.old.hardware.board c }
         ensures trusts { Trusts claim result self.old.trusted.items self.new.trusted.items }
         ensures hardware { self.new.hardware ≡ self.old.hardware }
-        ensures walks { self.new.walks ≡ self.old.walks }
+        ensures beside { self.new.beside ≡ self.old.beside }
     {
         match claim {
             Claim::Grant {
@@ -231,15 +246,19 @@ impl Session {
     }
 }
 
-/// Nothing is under way; there is room for it where a walk takes several events.
-fn walks_of(alloc: Global, pace: Pace) -> Result<Option<Walks>, AllocError>
-    ensures { IfOk result (λ walks. walks ≡ walks_at_power_on pace) }
+/// What hardware of this pace keeps beside it at power-on: nothing yet, with room for it.
+fn beside_of(alloc: Global, pace: Pace) -> Result<Beside, AllocError>
+    ensures { IfOk result (λ beside. beside ≡ beside_at_power_on pace) }
 {
     match pace {
-        Pace::Whole => Ok(None),
+        Pace::Whole => Ok(Beside::Nothing),
         Pace::Stepped => {
             let walks = Walks::new(alloc)?;
-            Ok(Some(walks))
+            Ok(Beside::UnderWay(walks))
+        }
+        Pace::Pointed => {
+            let pointers = Pointers::new(alloc)?;
+            Ok(Beside::Pointers(pointers))
         }
     }
 }

@@ -10,12 +10,12 @@ ghost use Rattle.iom_hardware_session.specs.Beside.{WalksAreSound};
 ghost use Rattle.iom_hardware_session.specs.BesideIsFact.{walks_are_sound_prop};
 ghost use Rattle.iom_virtio_blk.specs.MemoryDisks.{disk_state};
 
+use crate::beside::Beside;
 use crate::watched::Watched;
 use iom_base::DeviceId;
 use iom_claims::Claims;
 use iom_hardware::Hardware;
 use iom_virtio_blk::MemoryDisk;
-use iom_walks::Walks;
 use iom_way_survey::Survey;
 use std::alloc::Global;
 
@@ -24,8 +24,7 @@ use std::alloc::Global;
 pub struct Session {
     /// The board, and the block devices themselves.
     pub(crate) hardware: Hardware<MemoryDisk>,
-    /// The requests that are under way, where a walk takes several events; None where it takes one.
-    pub(crate) walks: Option<Walks>,
+    pub(crate) beside: Beside,
     pub(crate) claims: Claims,
     /// The devices that software trusts with all memory.
     pub(crate) trusted: Vec<DeviceId>,
@@ -36,6 +35,6 @@ pub struct Session {
     pub(crate) survey: Survey,
     ghost invariants: { BoardInvariant (board_parts hardware.board) hardware.board.events } by { board_invariant_prop (board_parts hardware.board) hardware.board.events },
     ghost agrees: { AgreesWith hardware.board.devices.items hardware.board.disks.items hardware.blocks.items hardware.at_hand.items } by { agrees_prop hardware.board.devices.items hardware.board.disks.items hardware.blocks.items hardware.at_hand.items },
-    ghost beside: { WalksAreSound (board_parts hardware.board) (inside disk_state hardware).blocks walks } by { walks_are_sound_prop (board_parts hardware.board) (inside disk_state hardware).blocks walks },
+    ghost sound: { WalksAreSound (board_parts hardware.board) (inside disk_state hardware).blocks beside } by { walks_are_sound_prop (board_parts hardware.board) (inside disk_state hardware).blocks beside },
     ghost room: { device_limit ≤ vec_capacity hardware.blocks },
 }

@@ -1,5 +1,5 @@
 // What devices and hardware do, and what the processor stores and loads, where a walk makes one load an event.
-ghost use Rattle.std.specs.Prelude.{◌≡◌, ◌+◌, ◌<◌, ◌≤◌, ◌^◌, Some, false};
+ghost use Rattle.std.specs.Prelude.{◌≡◌, ◌+◌, ◌<◌, ◌≤◌, ◌^◌, false};
 ghost use Rattle.iom_board.specs.BoardParts.{board_parts};
 ghost use Rattle.iom_hardware.specs.Inside.{inside};
 ghost use Rattle.iom_hardware.specs.Invariant.{HardwareInvariant};
@@ -8,6 +8,7 @@ ghost use Rattle.iom_hardware_session.specs.Beside.{AreSoundBeside};
 ghost use Rattle.iom_hardware_session.specs.Events.{IsUntranslated, IsTranslated, IsThroughCache, IsMessage, IsOther, IsOfBlock, IsForeign};
 ghost use Rattle.iom_hardware_session.specs.EventsBeside.{EffectBeside, LoadsBeside};
 ghost use Rattle.iom_hardware_session.specs.Shown.{shown_beside};
+ghost use Rattle.iom_hardware_session.specs.declared.beside.Beside.TheVariants.{UnderWay};
 ghost use Rattle.iom_stepped_hardware.specs.Beside.{AreBesideHardware};
 ghost use Rattle.iom_virtio_blk.specs.MemoryDisks.{disk_state};
 
@@ -28,8 +29,8 @@ fn untranslated(hardware: &mut Hardware<MemoryDisk>, walks: &mut Walks, event: &
     requires invariants { HardwareInvariant hardware.old }
     requires beside { AreBesideHardware (board_parts hardware.old.board) (inside disk_state hardware.old).blocks walks.old }
     requires count { hardware.old.board.events + 1 < 2 ^ 64 }
-    ensures effect { EffectBeside event.now result (shown_beside (Some walks.old) hardware.old) walks.old
-        (shown_beside (Some walks.new) hardware.new) walks.new }
+    ensures effect { EffectBeside event.now result (shown_beside (UnderWay walks.old) hardware.old) walks.old
+        (shown_beside (UnderWay walks.new) hardware.new) walks.new }
     ensures invariants { HardwareInvariant hardware.new }
     ensures beside { AreBesideHardware (board_parts hardware.new.board) (inside disk_state hardware.new).blocks walks.new }
     ensures counted { hardware.new.board.events ≤ hardware.old.board.events + 1 }
@@ -71,8 +72,8 @@ fn translated(hardware: &mut Hardware<MemoryDisk>, walks: &Walks, event: &Event)
     requires invariants { HardwareInvariant hardware.old }
     requires beside { AreBesideHardware (board_parts hardware.old.board) (inside disk_state hardware.old).blocks walks.now }
     requires count { hardware.old.board.events + 1 < 2 ^ 64 }
-    ensures effect { EffectBeside event.now result (shown_beside (Some walks.now) hardware.old) walks.now
-        (shown_beside (Some walks.now) hardware.new) walks.now }
+    ensures effect { EffectBeside event.now result (shown_beside (UnderWay walks.now) hardware.old) walks.now
+        (shown_beside (UnderWay walks.now) hardware.new) walks.now }
     ensures invariants { HardwareInvariant hardware.new }
     ensures beside { AreBesideHardware (board_parts hardware.new.board) (inside disk_state hardware.new).blocks walks.now }
     ensures counted { hardware.new.board.events ≤ hardware.old.board.events + 1 }
@@ -116,8 +117,8 @@ fn through_cache(hardware: &mut Hardware<MemoryDisk>, walks: &Walks, event: &Eve
     requires invariants { HardwareInvariant hardware.old }
     requires beside { AreBesideHardware (board_parts hardware.old.board) (inside disk_state hardware.old).blocks walks.now }
     requires count { hardware.old.board.events + 1 < 2 ^ 64 }
-    ensures effect { EffectBeside event.now result (shown_beside (Some walks.now) hardware.old) walks.now
-        (shown_beside (Some walks.now) hardware.new) walks.now }
+    ensures effect { EffectBeside event.now result (shown_beside (UnderWay walks.now) hardware.old) walks.now
+        (shown_beside (UnderWay walks.now) hardware.new) walks.now }
     ensures invariants { HardwareInvariant hardware.new }
     ensures beside { AreBesideHardware (board_parts hardware.new.board) (inside disk_state hardware.new).blocks walks.now }
     ensures counted { hardware.new.board.events ≤ hardware.old.board.events + 1 }
@@ -163,8 +164,8 @@ fn message(hardware: &mut Hardware<MemoryDisk>, walks: &Walks, event: &Event) ->
     requires invariants { HardwareInvariant hardware.old }
     requires beside { AreBesideHardware (board_parts hardware.old.board) (inside disk_state hardware.old).blocks walks.now }
     requires count { hardware.old.board.events + 1 < 2 ^ 64 }
-    ensures effect { EffectBeside event.now result (shown_beside (Some walks.now) hardware.old) walks.now
-        (shown_beside (Some walks.now) hardware.new) walks.now }
+    ensures effect { EffectBeside event.now result (shown_beside (UnderWay walks.now) hardware.old) walks.now
+        (shown_beside (UnderWay walks.now) hardware.new) walks.now }
     ensures invariants { HardwareInvariant hardware.new }
     ensures beside { AreBesideHardware (board_parts hardware.new.board) (inside disk_state hardware.new).blocks walks.now }
     ensures counted { hardware.new.board.events ≤ hardware.old.board.events + 1 }
@@ -188,8 +189,8 @@ fn other(hardware: &mut Hardware<MemoryDisk>, walks: &mut Walks, event: &Event) 
     requires invariants { HardwareInvariant hardware.old }
     requires beside { AreBesideHardware (board_parts hardware.old.board) (inside disk_state hardware.old).blocks walks.old }
     requires count { hardware.old.board.events + 1 < 2 ^ 64 }
-    ensures effect { EffectBeside event.now result (shown_beside (Some walks.old) hardware.old) walks.old
-        (shown_beside (Some walks.new) hardware.new) walks.new }
+    ensures effect { EffectBeside event.now result (shown_beside (UnderWay walks.old) hardware.old) walks.old
+        (shown_beside (UnderWay walks.new) hardware.new) walks.new }
     ensures invariants { HardwareInvariant hardware.new }
     ensures beside { AreBesideHardware (board_parts hardware.new.board) (inside disk_state hardware.new).blocks walks.new }
     ensures counted { hardware.new.board.events ≤ hardware.old.board.events + 1 }
@@ -220,8 +221,8 @@ fn of_block(hardware: &mut Hardware<MemoryDisk>, walks: &mut Walks, event: &Even
     requires invariants { HardwareInvariant hardware.old }
     requires beside { AreBesideHardware (board_parts hardware.old.board) (inside disk_state hardware.old).blocks walks.old }
     requires count { hardware.old.board.events + 1 < 2 ^ 64 }
-    ensures effect { EffectBeside event.now result (shown_beside (Some walks.old) hardware.old) walks.old
-        (shown_beside (Some walks.new) hardware.new) walks.new }
+    ensures effect { EffectBeside event.now result (shown_beside (UnderWay walks.old) hardware.old) walks.old
+        (shown_beside (UnderWay walks.new) hardware.new) walks.new }
     ensures invariants { HardwareInvariant hardware.new }
     ensures beside { AreBesideHardware (board_parts hardware.new.board) (inside disk_state hardware.new).blocks walks.new }
     ensures counted { hardware.new.board.events ≤ hardware.old.board.events + 1 }
@@ -256,10 +257,10 @@ fn happen(hardware: &mut Hardware<MemoryDisk>, walks: &mut Walks, event: &Event)
     requires beside { AreBesideHardware (board_parts hardware.old.board) (inside disk_state hardware.old).blocks walks.old }
     requires count { hardware.old.board.events + 1 < 2 ^ 64 }
     ensures effect { IsOfHardware event.now
-        → EffectBeside event.now result (shown_beside (Some walks.old) hardware.old) walks.old
-        (shown_beside (Some walks.new) hardware.new) walks.new }
+        → EffectBeside event.now result (shown_beside (UnderWay walks.old) hardware.old) walks.old
+        (shown_beside (UnderWay walks.new) hardware.new) walks.new }
     ensures foreign { is_of_hardware event.now ≡ false
-        → IsForeign result (shown_beside (Some walks.old) hardware.old) (shown_beside (Some walks.new) hardware.new) }
+        → IsForeign result (shown_beside (UnderWay walks.old) hardware.old) (shown_beside (UnderWay walks.new) hardware.new) }
     ensures invariants { HardwareInvariant hardware.new }
     ensures beside { AreBesideHardware (board_parts hardware.new.board) (inside disk_state hardware.new).blocks walks.new }
     ensures counted { hardware.new.board.events ≤ hardware.old.board.events + 1 }
@@ -296,10 +297,10 @@ pub(crate) fn event(hardware: &mut Hardware<MemoryDisk>, walks: &mut Walks, even
     requires sound { AreSoundBeside (board_parts hardware.old.board) (inside disk_state hardware.old).blocks walks.old }
     requires count { hardware.old.board.events + 1 < 2 ^ 64 }
     ensures effect { IsOfHardware event.now
-        → EffectBeside event.now result (shown_beside (Some walks.old) hardware.old) walks.old
-        (shown_beside (Some walks.new) hardware.new) walks.new }
+        → EffectBeside event.now result (shown_beside (UnderWay walks.old) hardware.old) walks.old
+        (shown_beside (UnderWay walks.new) hardware.new) walks.new }
     ensures foreign { is_of_hardware event.now ≡ false
-        → IsForeign result (shown_beside (Some walks.old) hardware.old) (shown_beside (Some walks.new) hardware.new) }
+        → IsForeign result (shown_beside (UnderWay walks.old) hardware.old) (shown_beside (UnderWay walks.new) hardware.new) }
     ensures invariants { HardwareInvariant hardware.new }
     ensures sound { AreSoundBeside (board_parts hardware.new.board) (inside disk_state hardware.new).blocks walks.new }
     ensures counted { hardware.new.board.events ≤ hardware.old.board.events + 1 }
@@ -319,8 +320,8 @@ pub(crate) fn load(
     requires invariants { HardwareInvariant hardware.old }
     requires sound { AreSoundBeside (board_parts hardware.old.board) (inside disk_state hardware.old).blocks walks.old }
     requires count { hardware.old.board.events + 1 < 2 ^ 64 }
-    ensures effect { LoadsBeside device result (shown_beside (Some walks.old) hardware.old) walks.old
-        (shown_beside (Some walks.new) hardware.new) walks.new }
+    ensures effect { LoadsBeside device result (shown_beside (UnderWay walks.old) hardware.old) walks.old
+        (shown_beside (UnderWay walks.new) hardware.new) walks.new }
     ensures invariants { HardwareInvariant hardware.new }
     ensures sound { AreSoundBeside (board_parts hardware.new.board) (inside disk_state hardware.new).blocks walks.new }
     ensures counted { hardware.new.board.events ≤ hardware.old.board.events + 1 }

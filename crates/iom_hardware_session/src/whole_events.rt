@@ -1,9 +1,10 @@
 // What devices and hardware do, and what the processor stores and loads, where a walk is one event.
-ghost use Rattle.std.specs.Prelude.{◌≡◌, ◌+◌, ◌<◌, ◌≤◌, ◌^◌, None, false};
+ghost use Rattle.std.specs.Prelude.{◌≡◌, ◌+◌, ◌<◌, ◌≤◌, ◌^◌, false};
 ghost use Rattle.iom_hardware.specs.Invariant.{HardwareInvariant};
 ghost use Rattle.iom_hardware_script.specs.Grammar.{IsOfHardware, is_of_hardware};
 ghost use Rattle.iom_hardware_session.specs.Events.{IsUntranslated, IsTranslated, IsThroughCache, IsMessage, IsOther, IsOfBlock, IsForeign, EventEffect};
 ghost use Rattle.iom_hardware_session.specs.Shown.{shown_beside};
+ghost use Rattle.iom_hardware_session.specs.declared.beside.Beside.TheVariants.{Nothing};
 
 use crate::answer::Answer;
 use iom_base::AccessKind;
@@ -17,7 +18,7 @@ fn untranslated(hardware: &mut Hardware<MemoryDisk>, event: &Event) -> Answer
     requires event { IsUntranslated event.now }
     requires invariants { HardwareInvariant hardware.old }
     requires count { hardware.old.board.events + 1 < 2 ^ 64 }
-    ensures effect { EventEffect event.now result (shown_beside None hardware.old) (shown_beside None hardware.new) }
+    ensures effect { EventEffect event.now result (shown_beside Nothing hardware.old) (shown_beside Nothing hardware.new) }
     ensures invariants { HardwareInvariant hardware.new }
     ensures counted { hardware.new.board.events ≡ hardware.old.board.events + 1 }
 {
@@ -56,7 +57,7 @@ fn translated(hardware: &mut Hardware<MemoryDisk>, event: &Event) -> Answer
     requires event { IsTranslated event.now }
     requires invariants { HardwareInvariant hardware.old }
     requires count { hardware.old.board.events + 1 < 2 ^ 64 }
-    ensures effect { EventEffect event.now result (shown_beside None hardware.old) (shown_beside None hardware.new) }
+    ensures effect { EventEffect event.now result (shown_beside Nothing hardware.old) (shown_beside Nothing hardware.new) }
     ensures invariants { HardwareInvariant hardware.new }
     ensures counted { hardware.new.board.events ≡ hardware.old.board.events + 1 }
 {
@@ -87,7 +88,7 @@ fn through_cache(hardware: &mut Hardware<MemoryDisk>, event: &Event) -> Answer
     requires event { IsThroughCache event.now }
     requires invariants { HardwareInvariant hardware.old }
     requires count { hardware.old.board.events + 1 < 2 ^ 64 }
-    ensures effect { EventEffect event.now result (shown_beside None hardware.old) (shown_beside None hardware.new) }
+    ensures effect { EventEffect event.now result (shown_beside Nothing hardware.old) (shown_beside Nothing hardware.new) }
     ensures invariants { HardwareInvariant hardware.new }
     ensures counted { hardware.new.board.events ≡ hardware.old.board.events + 1 }
 {
@@ -126,7 +127,7 @@ fn message(hardware: &mut Hardware<MemoryDisk>, event: &Event) -> Answer
     requires event { IsMessage event.now }
     requires invariants { HardwareInvariant hardware.old }
     requires count { hardware.old.board.events + 1 < 2 ^ 64 }
-    ensures effect { EventEffect event.now result (shown_beside None hardware.old) (shown_beside None hardware.new) }
+    ensures effect { EventEffect event.now result (shown_beside Nothing hardware.old) (shown_beside Nothing hardware.new) }
     ensures invariants { HardwareInvariant hardware.new }
     ensures counted { hardware.new.board.events ≡ hardware.old.board.events + 1 }
 {
@@ -146,7 +147,7 @@ fn other(hardware: &mut Hardware<MemoryDisk>, event: &Event) -> Answer
     requires event { IsOther event.now }
     requires invariants { HardwareInvariant hardware.old }
     requires count { hardware.old.board.events + 1 < 2 ^ 64 }
-    ensures effect { EventEffect event.now result (shown_beside None hardware.old) (shown_beside None hardware.new) }
+    ensures effect { EventEffect event.now result (shown_beside Nothing hardware.old) (shown_beside Nothing hardware.new) }
     ensures invariants { HardwareInvariant hardware.new }
     ensures counted { hardware.new.board.events ≤ hardware.old.board.events + 1 }
 {
@@ -171,7 +172,7 @@ fn of_block(hardware: &mut Hardware<MemoryDisk>, event: &Event) -> Answer
     requires event { IsOfBlock event.now }
     requires invariants { HardwareInvariant hardware.old }
     requires count { hardware.old.board.events + 1 < 2 ^ 64 }
-    ensures effect { EventEffect event.now result (shown_beside None hardware.old) (shown_beside None hardware.new) }
+    ensures effect { EventEffect event.now result (shown_beside Nothing hardware.old) (shown_beside Nothing hardware.new) }
     ensures invariants { HardwareInvariant hardware.new }
     ensures counted { hardware.new.board.events ≤ hardware.old.board.events + 1 }
 {
@@ -194,8 +195,8 @@ fn of_block(hardware: &mut Hardware<MemoryDisk>, event: &Event) -> Answer
 pub(crate) fn event(hardware: &mut Hardware<MemoryDisk>, event: &Event) -> Answer
     requires invariants { HardwareInvariant hardware.old }
     requires count { hardware.old.board.events + 1 < 2 ^ 64 }
-    ensures effect { IsOfHardware event.now → EventEffect event.now result (shown_beside None hardware.old) (shown_beside None hardware.new) }
-    ensures foreign { is_of_hardware event.now ≡ false → IsForeign result (shown_beside None hardware.old) (shown_beside None hardware.new) }
+    ensures effect { IsOfHardware event.now → EventEffect event.now result (shown_beside Nothing hardware.old) (shown_beside Nothing hardware.new) }
+    ensures foreign { is_of_hardware event.now ≡ false → IsForeign result (shown_beside Nothing hardware.old) (shown_beside Nothing hardware.new) }
     ensures invariants { HardwareInvariant hardware.new }
     ensures counted { hardware.new.board.events ≤ hardware.old.board.events + 1 }
 {

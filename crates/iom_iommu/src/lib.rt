@@ -31,6 +31,7 @@ mod foreseen;
 mod front;
 mod invalidations;
 mod iommu;
+mod kept;
 pub mod laws;
 mod questions;
 mod reply;

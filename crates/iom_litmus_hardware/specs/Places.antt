@@ -1,6 +1,7 @@
 -- What hardware under a driver is, for a litmus test: what later answers can depend on.
-use Rattle.std.specs.Prelude.{◌≡◌, ℕ, List, None}
+use Rattle.std.specs.Prelude.{◌≡◌, ℕ, List}
 use Rattle.iom_claims.specs.Rows.{Rows}
+use Rattle.iom_hardware_session.specs.declared.beside.Beside.TheVariants.{Nothing}
 use Rattle.iom_hardware_session.specs.declared.state.Session.{Session}
 use Rattle.iom_hardware_session.specs.declared.watched.Watched.{Watched}
 use Rattle.iom_litmus_looks.specs.Places.{HardwarePlace, hardware_place, ids_of}
@@ -21,9 +22,10 @@ place_of session = record {
   watched = session.watched.items;
 }
 
--- each walk of the session's hardware is one event. Places don't say what is under way, so they are compared of such sessions alone
+-- each walk of the session's hardware is one event, from the root. Places don't say what is under way, nor which pointers are cached, so they are compared of such
+-- sessions alone
 abbrev pub IsWhole : Session → Type 0
-IsWhole session = session.walks ≡ None
+IsWhole session = session.beside ≡ Nothing
 
 -- the same, with the ids of the devices
 pub record Tested : Type 0 where

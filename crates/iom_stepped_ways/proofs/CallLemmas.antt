@@ -132,7 +132,7 @@ module _ (trusted : ℕ → Bool) (old new : BoardParts) (rows new_rows : List W
       by (Err why) none same = subst (AreAdded (length old.memory) a) (sym same) all
 
 -- AN ACCESS IS MADE, of a device that isn't trusted where it writes
-makes_beside : (trusted : ℕ → Bool) (old new : BoardParts) (a : Added) (id : ℕ) (made : MadeAt) → MakesAccess id old (Some made) new → (trusted id ≡ true → ¬ (made.kind ≡ Write))
+pub makes_beside : (trusted : ℕ → Bool) (old new : BoardParts) (a : Added) (id : ℕ) (made : MadeAt) → MakesAccess id old (Some made) new → (trusted id ≡ true → ¬ (made.kind ≡ Write))
     → ComesAbout (Make id (access_on made.frame made.kind)) (with_added (scene_of trusted old) a) (with_added (scene_of trusted new) a)
 makes_beside trusted old new a id made effect untrusted =
     let (left, memory, there, among, harmless, after, is) = makes trusted old id made new effect (λ trusts writes read. untrusted trusts writes) in (

@@ -171,7 +171,7 @@ module _ (trusted : ℕ → Bool) (parts : BoardParts) (rows : List WalkRow) (wa
   kind_is : (id : ℕ) (device : Device) (own : DeviceKind) → device_with parts.devices id ≡ Some device → device.kind ≡ own → S.kind_of id ≡ Some (ats_kind own)
   kind_is id device own at is = ap (λ (found : Option Device). option_map ats_kind (option_map (λ (d : Device). d.kind) found)) at ∙ ap (λ k. Some (ats_kind k)) is
 
-  may_find : (id : ℕ) (own : DeviceContext) → HasDevice S id → Finds parts rows id own → MayFind S id (context_of own)
+  pub may_find : (id : ℕ) (own : DeviceContext) → HasDevice S id → Finds parts rows id own → MayFind S id (context_of own)
   may_find id own device (inl (inl is)) =
       let (some, (fits, cached)) = both_true (has_directory (mode_in parts)) (fits_directory (mode_in parts) id) (contexts_of parts.iommu id) own is in (
         device,

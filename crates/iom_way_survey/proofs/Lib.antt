@@ -15,3 +15,5 @@ pub mod PathLemmas
 pub mod LookLemmas
 pub mod SoleLemmas
 pub mod BesideLemmas
+pub mod GrowLemmas
+pub mod AlongLemmas

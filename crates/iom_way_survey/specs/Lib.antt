@@ -4,3 +4,4 @@ pub mod Directories
 pub mod Queues
 pub mod Laws
 pub mod Surveys
+pub mod Along

@@ -12,6 +12,7 @@ use Rattle.iom_hardware_ways.specs.Scenes.{scene_of}
 use Rattle.iom_stepped_ways.specs.Scenes.{stepped_scene}
 use Rattle.iom_table_survey.specs.Reaches.{frames_by, IsReachOf}
 use Rattle.iom_table_survey.specs.Rows.{row_has, frame_place, StandInBoth}
+use Rattle.iom_way_survey.specs.Along.{HasRowOfEach}
 use Rattle.iom_way_survey.specs.Found.{WayOf}
 use Rattle.iom_way_survey.specs.declared.findings.Conflict.{Conflict}
 use Rattle.iom_way_survey.specs.declared.findings.DeviceReach.{DeviceReach}
@@ -84,12 +85,13 @@ IsStoredAs scene frame = SomeAtPlace (λ other. Contains scene.fault_frames othe
 abbrev pub IsClash : HardwareScene → Type 0
 IsClash scene = (frame : ℕ) × IsReadAs scene frame × SomeAtPlace (IsWritable scene) frame
 
--- THE SURVEY misses no way of the scene, no frame that hardware reads, and none into which the IOMMU stores
+-- THE SURVEY misses no way of the scene, no frame that hardware reads, and none into which the IOMMU stores; and each device that is plugged in has its row
 pub record Surveys (survey : Survey) (scene : HardwareScene) : Type 0 where
   pub reached : (device frame : ℕ) (kind : AccessKind) → Way scene device frame kind → reaches_in_rows survey.devices.items device kind frame ≡ true
   pub read : (frame : ℕ) → IsRead scene frame → row_has survey.read frame ≡ true
   pub stored : (frame : ℕ) → Contains scene.fault_frames frame ⊎ HasWord scene frame → row_has survey.stored frame ≡ true
   pub trusted : TellsTrust scene survey.devices.items
+  pub rows : HasRowOfEach scene survey.devices.items
 
 -- THE SURVEY INVENTS nothing: each way of a row is one of its device, each frame that is read is one that hardware reads, and into each that is stored the
 -- IOMMU stores. Frames from 4,096 on, where no memory has any, share one place: there this is said of some such frame.

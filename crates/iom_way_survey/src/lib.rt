@@ -12,6 +12,7 @@
 //! looked for is each way of a device, and nothing else.
 #![tactic(auto)]
 
+mod along;
 mod contexts;
 mod devices;
 mod directory;

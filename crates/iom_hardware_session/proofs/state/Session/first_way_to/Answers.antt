@@ -14,8 +14,8 @@ use Rattle.iom_hardware_session.proofs.state.Session.first_way_to.Goals as goal
 pub returns-clause-none : goal.returns-clause-none
 returns-clause-none c = λ is device kind way.
     let session = c.args.self.now in
-    let (k, own, there, same) = place_beside (is_id_among session.trusted.items) (board_parts session.hardware.board) (inside disk_state session.hardware).blocks session.walks session.hardware.board.events device
-    c.args.frame kind session.invariants session.beside way in
+    let (k, own, there, same) = place_beside (is_id_among session.trusted.items) (board_parts session.hardware.board) (inside disk_state session.hardware).blocks session.beside session.hardware.board.events device
+    c.args.frame kind session.invariants session.sound way in
     let within = slice_get_within session.hardware.board.devices.items k own there in
     c.loop-place.invariant k own kind (omega (arith, within, c.len-place-end.ensures, c.loop-place-test.false, session.hardware.board.devices.ok.0)) there
     (subst (λ (d : ℕ). Way (scene_in session) d c.args.frame kind) (sym same) way)

@@ -10,7 +10,7 @@ pub returns-clause-timely : goal.returns-clause-timely
 returns-clause-timely c = λ is.
     let fabric = c.args.self.now.hardware.board.fabric in
     let long = c.len-place-end.ensures ∙ ap length c.messages-messages.ensures in
-    timely_beside _ (board_parts c.args.self.now.hardware.board) c.args.self.now.walks
+    timely_beside _ (board_parts c.args.self.now.hardware.board) c.args.self.now.beside
     (λ k on there. let within = slice_get_within fabric k on there in c.loop-place.invariant k on (omega (arith, within, long, c.loop-place-test.false)) there)
 
 pub returns-then-not-is_timely_message-clause-untimely : goal.returns-then-not-is_timely_message-clause-untimely

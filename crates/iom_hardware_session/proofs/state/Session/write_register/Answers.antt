@@ -13,6 +13,6 @@ invariant_of-self c =
     record {
       invariants = c.software_keeps_invariant.ensures.keeps parts _ session.hardware.board.events session.invariants changes;
       agrees = session.agrees;
-      beside = walks_stay c.events_stay_beside.ensures.software parts _ (inside disk_state session.hardware).blocks session.walks session.beside changes;
+      sound = walks_stay c.events_stay_beside.ensures.software parts _ (inside disk_state session.hardware).blocks session.beside session.sound changes;
       room = session.room;
     }

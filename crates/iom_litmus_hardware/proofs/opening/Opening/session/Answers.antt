@@ -9,7 +9,7 @@ returns-clause-opened c =
     (whole c.args.self.now.frames)
     (record {
       power_on = c.in-Ok.ensures.power_on;
-      walks = c.in-Ok.ensures.walks;
+      beside = c.in-Ok.ensures.beside;
       claims = c.in-Ok.ensures.claims;
       trusted = c.in-Ok.ensures.trusted;
       watched = c.in-Ok.ensures.watched;

@@ -5,6 +5,7 @@ use Rattle.iom_registers.specs.declared.registers.Registers.{Registers}
 use Rattle.iom_table_survey.specs.Rows.{GrowsBy}
 use Rattle.iom_way_survey.specs.Queues.{IsFrameAmong, IsWordAmong, IsOfFaults}
 use Rattle.iom_way_survey.specs.Surveys.{rows_in, is_id_among}
+use Rattle.iom_way_survey.proofs.AlongLemmas.{rows_of_each}
 use Rattle.iom_way_survey.proofs.BesideLemmas.{are_plugged, invents_none_beside, surveys_beside}
 use Rattle.iom_way_survey.proofs.LookLemmas.{ways_reached, rows_trust, all_read, all_stored}
 use Rattle.iom_way_survey.proofs.SoleLemmas.{rows_back, read_back, stored_back}
@@ -29,6 +30,7 @@ returns-clause-missed c =
           c.survey_devices.ensures.tables c.survey_directory.ensures frames;
       stored = all_stored (is_id_among trusted) parts walks c.clear-3.new.self c.survey_queue.new.stored c.survey_faults.new.stored words faults;
       trusted = rows_trust parts walks trusted rows c.survey_devices.ensures.rows;
+      rows = rows_of_each (is_id_among trusted) parts walks trusted rows sound plugs c.survey_devices.ensures.rows;
     })
 
 pub returns-clause-invented : goal.returns-clause-invented

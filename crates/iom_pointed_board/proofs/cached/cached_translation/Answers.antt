@@ -1,6 +1,6 @@
 use Rattle.std.proofs.Common.{arith}
-use Rattle.iom_hardware_session.proofs.ReadyLemmas.{none_served}
-use Rattle.iom_hardware_session.proofs.ready.cached_frame.Goals as goal
+use Rattle.iom_pointed_board.proofs.CachedLemmas.{none_served}
+use Rattle.iom_pointed_board.proofs.cached.cached_translation.Goals as goal
 
 pub returns : goal.returns
 returns c =

@@ -1,0 +1,3 @@
+pub mod CachedLemmas
+pub mod BeginLemmas
+pub mod AheadLemmas

@@ -1,0 +1,4 @@
+pub mod CallLemmas
+pub mod LawLemmas
+pub mod SceneLemmas
+pub mod FollowLemmas

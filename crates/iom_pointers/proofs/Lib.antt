@@ -1,0 +1,4 @@
+pub mod DeepestLemmas
+pub mod FollowLemmas
+pub mod KeepLemmas
+pub mod LeadLemmas
