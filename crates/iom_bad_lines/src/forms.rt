@@ -60,3 +60,52 @@ pub(crate) static TRACE_FORMS: [&str; 7] = [
     "take FRAME",
     "tables-freed FRAME ..",
 ];
+
+/// The forms of the first line of a driver under test that says something.
+pub(crate) static HARDWARE_FIRST: [&str; 3] = [
+    "hardware F",
+    "hardware F stepped",
+    "hardware F nonleaf",
+];
+
+/// The forms of a driver's lines, and of those of devices and hardware, as docs/DRIVER.md names their words.
+pub(crate) static HARDWARE_FORMS: [&str; 38] = [
+    "device ID raw",
+    "device ID ats",
+    "device ID blk K",
+    "device ID ablk K",
+    "medium ID K",
+    "reset ID",
+    "read ID ADDR LEN",
+    "write ID ADDR HEX",
+    "tread ID ADDR LEN",
+    "twrite ID ADDR HEX",
+    "aread ID ADDR LEN",
+    "awrite ID ADDR HEX",
+    "ask ID PAGE",
+    "forge ID SERIAL",
+    "load ID",
+    "commit ID",
+    "fetch",
+    "timeout",
+    "deliver K",
+    "drop K",
+    "repeat K",
+    "queue ID SIZE DESC AVAIL USED",
+    "step ID",
+    "status ID",
+    "poke ADDR HEX",
+    "peek ADDR LEN",
+    "mmio-read OFFSET WIDTH",
+    "mmio-write OFFSET WIDTH VALUE",
+    "claim grant ID PAGE FRAME RIGHT",
+    "claim ready ID PAGE",
+    "claim release ID PAGE",
+    "claim done T",
+    "claim handoff FRAME",
+    "claim take FRAME",
+    "claim trust ID",
+    "auto SEED",
+    "traffic ID FIRST LAST",
+    "quiesce",
+];

@@ -33,10 +33,21 @@ fn is_pages(word: &str) -> bool {
 pub(crate) fn is_such(word: &str, expected: &str) -> bool {
     match expected {
         "ID" => device_of(word.as_bytes()).is_some(),
-        "ADDR" | "DESC" | "AVAIL" | "USED" => address_of(word.as_bytes()).is_some(),
-        "PAGE" | "FRAME" | "LEN" | "SERIAL" | "K" | "SIZE" | "F" | "L" => {
-            number_of(word.as_bytes()).is_some()
-        }
+        "ADDR" | "DESC" | "AVAIL" | "USED" | "VALUE" => address_of(word.as_bytes()).is_some(),
+        "PAGE"
+        | "FRAME"
+        | "LEN"
+        | "SERIAL"
+        | "K"
+        | "SIZE"
+        | "F"
+        | "L"
+        | "OFFSET"
+        | "WIDTH"
+        | "T"
+        | "SEED"
+        | "FIRST"
+        | "LAST" => number_of(word.as_bytes()).is_some(),
         "PAGE+N" => is_pages(word),
         "RIGHT" => right_of(word.as_bytes()).is_some(),
         "HEX" => is_hex(word),

@@ -1,5 +1,7 @@
 // What the command line says.
 
+use iom_programs::is_file;
+
 /// How the program is to run.
 #[derive(Clone, Copy)]
 pub(crate) struct Arguments<'a> {
@@ -11,16 +13,16 @@ pub(crate) struct Arguments<'a> {
     pub(crate) file: Option<&'a str>,
 }
 
-/// Whether the word can name a file: it isn't empty, and doesn't begin with `-`.
-fn is_file(word: &str) -> bool {
-    match word.as_bytes() {
-        [] => false,
-        [first, ..] => *first != b'-',
-    }
+/// What is asked for.
+#[derive(Clone, Copy)]
+pub(crate) enum Request<'a> {
+    Help,
+    Version,
+    Run(Arguments<'a>),
 }
 
-/// What the words after the program's name say: `[--live] [--log FILE] [FILE]`. None where they say something else.
-pub(crate) fn read_words(words: &[String]) -> Option<Arguments<'_>> {
+/// What the words say that ask for a run: `[--live] [--log FILE] [FILE]`. None where they say something else.
+fn read_run(words: &[String]) -> Option<Arguments<'_>> {
     let (live, words) = match words {
         [flag, rest @ ..] if flag.as_str() == "--live" => (true, rest),
         _ => (false, words),
@@ -37,4 +39,13 @@ pub(crate) fn read_words(words: &[String]) -> Option<Arguments<'_>> {
         _ => return None,
     };
     Some(Arguments { live, log, file })
+}
+
+/// What the words after the program's name ask for. None where they aren't a lawful command line.
+pub(crate) fn read_words(words: &[String]) -> Option<Request<'_>> {
+    match words {
+        [word] if word.as_str() == "--help" => Some(Request::Help),
+        [word] if word.as_str() == "--version" => Some(Request::Version),
+        _ => Some(Request::Run(read_run(words)?)),
+    }
 }

@@ -10,10 +10,10 @@
 ghost use Rattle.std.specs.Prelude.{◌≤◌, length, IfSome};
 ghost use Rattle.iom_script.specs.Grammar.{IsWorldSize};
 
-use iom_bad_lines::{FIRST, SCRIPT_FORMS, explain};
+use iom_bad_lines::{FIRST, SCRIPT_FORMS, explain, is_first_spoken, line_at, wrong_end};
 use iom_programs::{INPUT, cause_of, is_file, why_no_words, words_of};
 use iom_runner::program_disks;
-use iom_script::{Script, ScriptFault, is_spoken, parse};
+use iom_script::{Script, ScriptFault, parse};
 use iom_script_reading::{ReadFault, read_script};
 use iom_telling::{TellingFault, tell};
 use std::io::{IsTerminal, Read, Write};
@@ -74,24 +74,6 @@ fn tell_script(rt: &HostRuntime, name: &str, script: &Script, explains: bool) ->
     }
 }
 
-/// Whether the line is the first that says something, of these lines up to it.
-fn is_first_spoken(text: &str, number: usize) -> bool {
-    let before = text.lines().take(number.saturating_sub(1));
-    !before.into_iter().any(|line| is_spoken(line.as_bytes()))
-}
-
-/// What is wrong with how the line ends, if anything is. A line ends with a line feed alone.
-fn wrong_end(text: &str, place: usize) -> Option<&'static str> {
-    let line = text.split('\n').nth(place.saturating_sub(1))?;
-    if line.ends_with('\r') {
-        return Some("it ends with a carriage return");
-    }
-    if text.split('\n').count() == place {
-        return Some("it ends without a line feed");
-    }
-    None
-}
-
 /// Tells what is wrong with the line, which isn't in the grammar.
 fn complain_of_line(rt: &HostRuntime, name: &str, bytes: &[u8], number: u64) {
     let place = usize::try_from(number).unwrap_or(usize::MAX);
@@ -99,7 +81,7 @@ fn complain_of_line(rt: &HostRuntime, name: &str, bytes: &[u8], number: u64) {
         let _ = eprintln!(rt; "iommu-tell: {name}: line {number}: bad script: it isn't text");
         return;
     };
-    let line = text.lines().nth(place.saturating_sub(1)).unwrap_or("");
+    let line = line_at(text, place);
     let is_first = is_first_spoken(text, place);
     if line.starts_with("world ") && !is_first {
         let _ = eprintln!(rt;
