@@ -92,7 +92,7 @@ pub own_fault : (memory : List (List ℕ)) (address : ℕ) (kind : AccessKind) (
 own_fault memory address kind fault answers = by (nat_lt (address / page_size) (length memory)) answers
   where
     by : (b : Bool)
-        → ◌≡◌ {A = Result Translation WalkFault} (Err fault) (if b then Ok (record { frame = address / page_size; rights = rw; level = 0 }) else Err (plain (access_fault_of kind)))
+        → ◌≡◌ {A = Result Translation WalkFault} (Err fault) (if b then Ok (record { frame = address / page_size; rights = rw; order = 0 }) else Err (plain (access_fault_of kind)))
         → fault_by kind (if b then Untranslated (address / page_size) else OutsideMemory) ≡ Some fault
     by true is = absurd cc
     by false is = cc

@@ -49,7 +49,7 @@ module _ (memory : List (List ℕ)) (id address : ℕ) (kind : AccessKind) (why 
         where
           own : (b : Bool)
               → ◌≡◌ {A = Result Translation WalkFault} (Err fault)
-              (if b then Ok (record { frame = address / page_size; rights = rw; level = 0 }) else Err (plain (access_fault_of kind)))
+              (if b then Ok (record { frame = address / page_size; rights = rw; order = 0 }) else Err (plain (access_fault_of kind)))
               → translated_fault_by kind (if b then Passes (address / page_size) else OutsideMemory) ≡ Some fault
           own true is = absurd cc
           own false is = cc

@@ -97,14 +97,14 @@ module _ (sure : Bool) (parts : BoardParts) (id address : ℕ) (low : address < 
       by : (b : Bool) → nat_lt (address / 4096) (length parts.memory) ≡ b → Agrees
       by true h =
           inl (ap frame_answered gives
-          ∙ ap (λ b. frame_answered (if b then Ok (record { frame = address / 4096; rights = rw; level = 0 }) else Err (plain (access_fault_of kind)))) h
+          ∙ ap (λ b. frame_answered (if b then Ok (record { frame = address / 4096; rights = rw; order = 0 }) else Err (plain (access_fault_of kind)))) h
           ∙ sym (ap frame_found walk))
       by false h =
           inr (
             ltb-false (address / 4096) (length parts.memory) h,
             ap frame_found walk,
             ap frame_answered gives
-                ∙ ap (λ b. frame_answered (if b then Ok (record { frame = address / 4096; rights = rw; level = 0 }) else Err (plain (access_fault_of kind)))) h,
+                ∙ ap (λ b. frame_answered (if b then Ok (record { frame = address / 4096; rights = rw; order = 0 }) else Err (plain (access_fault_of kind)))) h,
           )
 
   -- a walk from the page's own address ends as one from any address of it

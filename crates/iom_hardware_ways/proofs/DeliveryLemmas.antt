@@ -152,7 +152,7 @@ question_arrives : (trusted : ℕ → Bool) (old : BoardParts) (place device epo
 question_arrives trusted old place device epoch page (reply.Page frame rights) new there asked answers =
     let is = answers.call.0 in
     let (may, change) = told_by trusted old device epoch page true (ats_context_for old.memory (registers_of old.iommu) (contexts_of old.iommu) device)
-    (record { frame = frame; rights = rights; level = is.level }) (translations_of new.iommu) there asked refl is.served in
+    (record { frame = frame; rights = rights; order = is.order }) (translations_of new.iommu) there asked refl is.served in
     question_answered trusted old new place device epoch page (reply.Page frame rights) there answers.fabric answers.devices (ap (λ parts. parts.flights) is.rest) is.contexts
     (alike (registers_of new.iommu) (registers_of old.iommu) (ap (λ parts. parts.registers) is.rest)) may change (inl (ap slice_get answers.call.1))
 question_arrives trusted old place device epoch page (reply.Refused cause) new there asked answers =

@@ -86,7 +86,7 @@ accepted trusted old new id access number Served there accepts memory devices fa
     let flights : ℕ → List PendingAccess = λ d. flights_in (row_of after d) in
     let own : PendingAccess = record { frame = accepts.frame; kind = access.kind } in
     let t = record s { in_flight = flights } in
-    let (served, change) = why (record { frame = accepts.frame; rights = accepts.rights; level = accepts.level }) (translations_of new.iommu) accepts.served in
+    let (served, change) = why (record { frame = accepts.frame; rights = accepts.rights; order = accepts.order }) (translations_of new.iommu) accepts.served in
     let mode = directory_mode (registers_of old.iommu) in
     let last = record t { translations = mappings_in (translations_of new.iommu); contexts = contexts_in mode (contexts_of new.iommu); memory = slice_get old.memory } in
     ends_as s last (scene_of trusted new)

@@ -187,7 +187,7 @@ own_frame memory address kind answer reply = by (nat_lt (address / 4096) (length
     all_allowed Write = refl
 
     own : Translation
-    own = record { frame = address / 4096; rights = rw; level = 0 }
+    own = record { frame = address / 4096; rights = rw; order = 0 }
 
     by : (b : Bool) → Ok answer ≡ (if b then Ok own else Err (plain (access_fault_of kind))) → (answer.frame ≡ address / 4096) × (allows answer.rights kind ≡ true)
     by true is = let same : answer ≡ own = cc in (ap (λ (t : Translation). t.frame) same, ap (λ (t : Translation). allows t.rights kind) same ∙ all_allowed kind)

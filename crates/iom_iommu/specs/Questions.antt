@@ -31,8 +31,8 @@ ServesQuestion {c = c} memory old id page answer new =
 -- the page has this frame, with all rights of the translation
 pub record TellsPage {C : Type 0} {c : Cache C} (memory : List (List ℕ)) (old : Iommu C c) (id page frame : ℕ) (rights : Rights)
     (new : Iommu C c) : Type 0 where
-  pub level : ℕ
-  pub served : ServesQuestion memory old id page (Ok (record { frame = frame; rights = rights; level = level })) (translations_of new)
+  pub order : ℕ
+  pub served : ServesQuestion memory old id page (Ok (record { frame = frame; rights = rights; order = order })) (translations_of new)
   pub inside : frame < frames_of old
   pub contexts : KeepsContext memory (registers_of old) (contexts_of old) id (contexts_of new)
   pub rest : iommu_parts new ≡ record (iommu_parts old) { contexts = new.contexts; translations = new.translations }

@@ -38,8 +38,8 @@ pub record IommuAccepts {C : Type 0} {c : Cache C} (Served : Result Translation 
   pub within : IsWithinPage access
   pub frame : ℕ
   pub rights : Rights
-  pub level : ℕ
-  pub served : Served (Ok (record { frame = frame; rights = rights; level = level })) (translations_of new)
+  pub order : ℕ
+  pub served : Served (Ok (record { frame = frame; rights = rights; order = order })) (translations_of new)
   pub inside : frame < frames_of old
   pub accepted : IsAccepted (flights_of old) id (record { access = access; frame = frame }) number (flights_of new)
   pub contexts : KeepsContext memory (registers_of old) (contexts_of old) id (contexts_of new)

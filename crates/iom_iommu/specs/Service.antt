@@ -1,6 +1,6 @@
 -- How a transaction is translated, and what is cached for it (IOMMU specification, section 2.3, "Process to translate an IOVA", and section
 -- 2.8, "Caching in-memory data structures").
-use Rattle.std.specs.Prelude.{◌≡◌, ℕ, ◌/◌, nat_lt, Bool, List, length, Option, None, Some, Result, Ok, Err, if◌then◌else◌}
+use Rattle.std.specs.Prelude.{◌≡◌, ℕ, ◌*◌, ◌/◌, nat_lt, Bool, List, length, Option, None, Some, Result, Ok, Err, if◌then◌else◌}
 use Rattle.iom_base.specs.Tables.{access_fault_of}
 use Rattle.iom_base.specs.Rights.{allows, rw}
 use Rattle.iom_base.specs.Sizes.{page_size}
@@ -56,7 +56,7 @@ ats_context_for memory r content id = ats_context_in (directory_mode r) (context
 -- the frame of the address itself, if there is one, to be read and written
 abbrev pub own_page : List (List ℕ) → ℕ → AccessKind → Result Translation WalkFault
 own_page memory address kind =
-    if nat_lt (address / page_size) (length memory) then Ok (record { frame = address / page_size; rights = rw; level = 0 })
+    if nat_lt (address / page_size) (length memory) then Ok (record { frame = address / page_size; rights = rw; order = 0 })
     else Err (plain (access_fault_of kind))
 
 -- the page of an address, in the address space that the stages of a context translate: a first stage's is named by PSCID, a second's by GSCID,
@@ -75,9 +75,9 @@ abbrev pub cached_for : Option Translation → AccessKind → Option Translation
 cached_for None kind = None
 cached_for (Some translation) kind = if allows translation.rights kind then Some translation else None
 
--- what is kept of a walk: also the level of the leaf, by which an invalidation of another page of the leaf takes it out
+-- what is kept of a walk: also the order of the leaf, by which an invalidation of another page of the leaf takes it out; each level has 512 times as many pages
 abbrev pub translation_of : Walked → Translation
-translation_of walked = record { frame = walked.frame; rights = walked.rights; level = walked.level }
+translation_of walked = record { frame = walked.frame; rights = walked.rights; order = 9 * walked.level }
 
 -- the walk reaches this translation, which is kept; or it stops with this fault, and nothing is kept. What it reaches, and with what it stops, is said
 -- of the stages that are walked

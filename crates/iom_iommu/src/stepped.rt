@@ -59,7 +59,7 @@ fn translation_by(memory: &Memory, asked: Asked, answer: Answer) -> Result<Trans
         ) => Ok(Translation {
             frame,
             rights,
-            level,
+            order: 9 * u16::from(level),
         }),
         Answer::Faults(fault) => Err(fault),
     }

@@ -41,7 +41,7 @@ pub(crate) fn own_page(
     Ok(Translation {
         frame: page as u32,
         rights: Rights::RW,
-        level: 0,
+        order: 0,
     })
 }
 
@@ -136,7 +136,7 @@ fn walk_and_keep<C: TransCache>(
             let translation = Translation {
                 frame,
                 rights,
-                level,
+                order: 9 * u16::from(level),
             };
             translations.keep(space, address / PAGE_SIZE, translation);
             Ok(translation)

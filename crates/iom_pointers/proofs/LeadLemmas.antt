@@ -107,7 +107,7 @@ module _ (memory : List (List ℕ)) (hand : TableInHand) where
           (leaf_ends base rights low leaf.aligned));
       allowed = ap (λ (r : Rights). allows r kind) leaf.rights_are ∙ leaf.allowed;
       inside = subst (λ n. translation.frame < n) all leaf.inside;
-      level = leaf.level_is ∙ sym (below_length hand.level hand.page) ∙ level_is (LeafEntry base rights) is;
+      order = leaf.order_is ∙ ap (λ l. 9 * l) (sym (below_length hand.level hand.page) ∙ level_is (LeafEntry base rights) is);
     }
 
     leaf_nowhere : ((translation : Translation) → ¬ IsLeafFor hand base rights kind frames translation) → LeadsNowhere memory hand kind
@@ -119,13 +119,13 @@ module _ (memory : List (List ℕ)) (hand : TableInHand) where
         by false denied aligned given = inl (ap (λ (m : Mapping). allows m.rights kind) (sym given) ∙ denied)
         by true allowed aligned given = elim (leb_tells (length memory) mapping.frame) [
           | inl outside ↦ inr outside.1
-          | inr inside ↦ absurd (none (record { frame = mapping.frame; rights = mapping.rights; level = hand.level }) (record {
+          | inr inside ↦ absurd (none (record { frame = mapping.frame; rights = mapping.rights; order = 9 * hand.level }) (record {
             aligned = aligned;
             allowed = allowed;
             inside = subst (λ n. mapping.frame < n) (sym all) inside.1;
             frame_is = ap (λ (m : Mapping). m.frame) (sym given);
             rights_are = ap (λ (m : Mapping). m.rights) (sym given);
-            level_is = refl;
+            order_is = refl;
           }))
         ]
 
@@ -159,7 +159,8 @@ module _ (memory : List (List ℕ)) (hand : TableInHand) where
       ends = ends_to (Pointer n) is (mapping_of translation) (ends_below (mapping_of translation) leads.ends);
       allowed = leads.allowed;
       inside = leads.inside;
-      level = leads.level ∙ ap (λ t. leaf_level (entries memory) t (indices_in below)) named ∙ ap (leaf_level (entries memory) n) indices_are ∙ level_is (Pointer n) is;
+      order = leads.order
+          ∙ ap (λ l. 9 * l) (ap (λ t. leaf_level (entries memory) t (indices_in below)) named ∙ ap (leaf_level (entries memory) n) indices_are ∙ level_is (Pointer n) is);
     }
 
     pub pointer_leads : (found : Option Translation) → IfSome found (LeadsTo memory below kind) → IfSome found (LeadsTo memory hand kind)

@@ -1,5 +1,5 @@
 -- Where a walk leads that has a table in hand, by the formats of page tables.
-use Rattle.std.specs.Prelude.{◌≡◌, ◌⊎◌, ℕ, ◌+◌, ◌%◌, ◌^◌, ◌<◌, ◌≤◌, true, false, List, length, map, slice_get}
+use Rattle.std.specs.Prelude.{◌≡◌, ◌⊎◌, ℕ, ◌+◌, ◌*◌, ◌%◌, ◌^◌, ◌<◌, ◌≤◌, true, false, List, length, map, slice_get}
 use Rattle.iom_base.specs.Rights.{allows}
 use Rattle.iom_base.specs.Tables.{table_entries}
 use Rattle.iom_base.specs.declared.access.AccessKind.{AccessKind}
@@ -30,7 +30,7 @@ pub record LeadsTo (memory : List (List ℕ)) (hand : TableInHand) (kind : Acces
   pub ends : EndsAt memory hand (mapping_of translation)
   pub allowed : allows translation.rights kind ≡ true
   pub inside : translation.frame < length memory
-  pub level : translation.level ≡ leaf_level (entries memory) hand.table.number (indices_in hand)
+  pub order : translation.order ≡ 9 * leaf_level (entries memory) hand.table.number (indices_in hand)
 
 -- to none: it ends at no leaf, at one that lacks the kind of access, or outside memory
 abbrev pub LeadsNowhere : List (List ℕ) → TableInHand → AccessKind → Type 0
@@ -43,4 +43,4 @@ pub record IsLeafFor (hand : TableInHand) (base : ℕ) (rights : Rights) (kind :
   pub inside : translation.frame < frames
   pub frame_is : translation.frame ≡ base + hand.page % table_entries ^ hand.level
   pub rights_are : translation.rights ≡ rights
-  pub level_is : translation.level ≡ hand.level
+  pub order_is : translation.order ≡ 9 * hand.level

@@ -46,7 +46,7 @@ fn leaf_of(
     Some(Translation {
         frame: frame as u32,
         rights,
-        level: hand.level as u8,
+        order: 9 * hand.level as u16,
     })
 }
 

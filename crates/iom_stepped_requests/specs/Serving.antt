@@ -1,6 +1,6 @@
 -- How a request of a device is served, one load an event (RISC-V IOMMU specification, section 2.3, "Process to translate an IOVA", and section 2.8, "Caching
 -- in-memory data structures"). What the caches have is handed in: the context that is cached for the device, and what is cached for each page.
-use Rattle.std.specs.Prelude.{ℕ, ◌/◌, Bool, true, false, List, length, Option, None, Some, Result, Ok, Err, if◌then◌else◌}
+use Rattle.std.specs.Prelude.{ℕ, ◌*◌, ◌/◌, Bool, true, false, List, length, Option, None, Some, Result, Ok, Err, if◌then◌else◌}
 use Rattle.iom_base.specs.Rights.{allows}
 use Rattle.iom_base.specs.Sizes.{page_size}
 use Rattle.iom_base.specs.declared.access.AccessKind.{AccessKind}
@@ -136,9 +136,9 @@ kept_in_directory request (Ends (Err cause)) = kept_as.Nothing
 kept_in_directory request (ReadsEntry address rest) = kept_as.Nothing
 kept_in_directory request (ReadsContext address rest) = kept_as.Nothing
 
--- what is kept of a walk: also the level of the leaf, by which an invalidation of another page of the leaf takes it out
+-- what is kept of a walk: also the order of the leaf, by which an invalidation of another page of the leaf takes it out; each level has 512 times as many pages
 abbrev pub translation_of : Walked → Translation
-translation_of walked = record { frame = walked.frame; rights = walked.rights; level = walked.level }
+translation_of walked = record { frame = walked.frame; rights = walked.rights; order = 9 * walked.level }
 
 -- A TRANSLATION at the load that ends the walk, where that reaches a page
 abbrev pub kept_in_tables : Request → Space → Walk TableAnswer → Kept

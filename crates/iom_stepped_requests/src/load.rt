@@ -49,7 +49,7 @@ fn kept_in_tables(request: Request, space: Space, progress: Progress) -> Kept
             translation: Translation {
                 frame,
                 rights,
-                level,
+                order: 9 * u16::from(level),
             },
         },
         Progress::Ended(Err(_)) | Progress::GoesOn(_) => Kept::Nothing,

@@ -88,7 +88,7 @@ module _ (serve : RunsServe) (memory new_memory : List (List ℕ)) (old last new
       within = may.within;
       frame = is.translation.frame;
       rights = is.translation.rights;
-      level = is.translation.level;
+      order = is.translation.order;
       served = subst (λ t. Serves true memory (registers_of old) (contexts_of old) id access.address access.kind (translations_of old) t (translations_of new)) is.is served.1;
       inside = subst (λ n. is.translation.frame < n) (ap (λ (p : IommuParts Ioatc). p.frames) last_is) is.inside;
       accepted = subst (λ f. IsAccepted f id (record { access = access; frame = is.translation.frame }) number (flights_of new)) flights_same is.accepted;

@@ -30,7 +30,7 @@ const SPACE: Space = Space::First { pscid: 7 };
 const KEPT: Translation = Translation {
     frame: 9,
     rights: Rights::RW,
-    level: 0,
+    order: 0,
 };
 
 fn worked(rt: &impl Abort, alloc: Global) -> Memory {

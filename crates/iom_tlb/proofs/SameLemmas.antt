@@ -15,9 +15,9 @@ one_right a b same = search rules
 
 one_translation : (a b : Translation) → translation.ghosts.eq a b ≡ true → a ≡ b
 one_translation a b same =
-    let parts = both (nat_eq a.frame b.frame) (rights.ghosts.eq a.rights b.rights && nat_eq a.level b.level) same in
-    let two = both (rights.ghosts.eq a.rights b.rights) (nat_eq a.level b.level) parts.1 in
-    λ i. record { frame = eqb-true a.frame b.frame parts.0 i; rights = one_right a.rights b.rights two.0 i; level = eqb-true a.level b.level two.1 i }
+    let parts = both (nat_eq a.frame b.frame) (rights.ghosts.eq a.rights b.rights && nat_eq a.order b.order) same in
+    let two = both (rights.ghosts.eq a.rights b.rights) (nat_eq a.order b.order) parts.1 in
+    λ i. record { frame = eqb-true a.frame b.frame parts.0 i; rights = one_right a.rights b.rights two.0 i; order = eqb-true a.order b.order two.1 i }
 
 pub translation_decides : (a b : Translation) → Decides (translation.ghosts.eq a b) (a ≡ b)
 translation_decides a b = (one_translation a b, λ same. subst (λ x. translation.ghosts.eq a x ≡ true) same (translation_eq.laws-law.refl a))

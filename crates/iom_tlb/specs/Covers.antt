@@ -1,6 +1,5 @@
 -- What a cover covers (IOMMU specification, section 3.1.1: an address names the leaf that translates it, also one of a superpage).
 use Rattle.std.specs.Prelude.{ℕ, ◌/◌, ◌^◌, Bool, true, false, ◌==◌, ◌&&◌, ◌||◌, List, [], ◌∷◌, Option, Some, None, if◌then◌else◌}
-use Rattle.iom_base.specs.Tables.{table_entries}
 use Rattle.iom_tlb.specs.declared.space.Space.{Space}
 use Rattle.iom_tlb.specs.declared.space.Space.TheVariants as space
 use Rattle.iom_tlb.specs.declared.cover.Cover.{Cover}
@@ -14,21 +13,21 @@ abbrev pub admits : Option ℕ → ℕ → Bool
 admits None number = true
 admits (Some asked) number = asked == number
 
--- whether two pages lie in one leaf of this level: it spans the entries of a table for each level below it
+-- whether two pages lie in one leaf of this order: it spans so many pages, a power of two
 abbrev pub is_same_leaf : ℕ → ℕ → ℕ → Bool
-is_same_leaf level page other = page / table_entries ^ level == other / table_entries ^ level
+is_same_leaf order page other = page / 2 ^ order == other / 2 ^ order
 
 -- whether a page lies in the leaf of the one that is asked for, where one is
 abbrev pub admits_page : Option ℕ → ℕ → ℕ → Bool
-admits_page None number level = true
-admits_page (Some asked) number level = is_same_leaf level asked number
+admits_page None number order = true
+admits_page (Some asked) number order = is_same_leaf order asked number
 
 -- whether a translation of a page of an address space is covered; a cover of one kind of address spaces covers no page of another kind
 abbrev pub covers : Cover → Key → Translation → Bool
-covers (cover.First pscid page) (space.First own, number) cached = admits pscid own && admits_page page number cached.level
-covers (cover.Second gscid page) (space.Second own, number) cached = admits gscid own && admits_page page number cached.level
+covers (cover.First pscid page) (space.First own, number) cached = admits pscid own && admits_page page number cached.order
+covers (cover.Second gscid page) (space.Second own, number) cached = admits gscid own && admits_page page number cached.order
 covers (cover.Both gscid pscid page) (space.Both guest own, number) cached =
-    admits gscid guest && admits pscid own && admits_page page number cached.level
+    admits gscid guest && admits pscid own && admits_page page number cached.order
 covers _ _ _ = false
 
 -- whether one of some covers covers it
@@ -71,6 +70,6 @@ also_large (space.First own) large = record { first = true; second = large.secon
 also_large (space.Second own) large = record { first = large.first; second = true; both = large.both }
 also_large (space.Both guest own) large = record { first = large.first; second = large.second; both = true }
 
--- that too, where what is kept came from a leaf of this level
+-- that too, where what is kept came from a leaf of this order
 abbrev pub with_kept : Space → ℕ → LargeLeaves → LargeLeaves
-with_kept space level large = if level == 0 then large else also_large space large
+with_kept space order large = if order == 0 then large else also_large space large

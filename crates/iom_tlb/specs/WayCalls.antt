@@ -26,7 +26,7 @@ AreSets sets = (length sets ≡ 64) × ((number : ℕ) → AreAtHome number (get
 
 -- a translation from a leaf above 4 KiB is of an address space where one may be
 abbrev pub AreMarked : LargeLeaves → Translations → Type 0
-AreMarked large content = (key : Key) (cached : Translation) → content key ≡ Some cached → may_be_large large key.0 ≡ false → cached.level ≡ 0
+AreMarked large content = (key : Key) (cached : Translation) → content key ≡ Some cached → may_be_large large key.0 ≡ false → cached.order ≡ 0
 
 -- THE INVARIANT of the cache
 abbrev pub IsWayCache : List Ways → LargeLeaves → Type 0

@@ -6,7 +6,6 @@ ghost use Rattle.iom_tlb.specs.declared.trans_cache.Translation.{Translation};
 
 use crate::space::Space;
 use crate::trans_cache::Translation;
-use iom_base::TABLE_ENTRIES;
 
 /// Which translations are taken out: of the address spaces of one kind, and of these of the one with that
 /// GSCID or PSCID, or of all (None); those that came from the leaf in which that page lies, or all (None).
@@ -27,17 +26,11 @@ pub enum Cover {
     },
 }
 
-/// Whether two pages lie in one leaf that has so many levels below it.
-fn is_same_leaf(level: u8, page: u64, other: u64) -> bool
-    ensures { result ≡ is_same_leaf level page other }
+/// Whether two pages lie in one leaf of this order. One of 64 or more would span every page there is.
+fn is_same_leaf(order: u16, page: u64, other: u64) -> bool
+    ensures { result ≡ is_same_leaf order page other }
 {
-    let mut one = page;
-    let mut two = other;
-    for _level in 0..level {
-        one = one / TABLE_ENTRIES;
-        two = two / TABLE_ENTRIES;
-    }
-    one == two
+    order >= 64 || page >> order == other >> order
 }
 
 impl Cover {
@@ -45,15 +38,15 @@ impl Cover {
     pub fn covers(&self, space: Space, number: u64, cached: Translation) -> bool
         ensures { result ≡ covers self.now (space, number) cached }
     {
-        let level = cached.level;
+        let order = cached.order;
         match (*self, space) {
             (Cover::First { pscid, page }, Space::First { pscid: own }) => {
                 pscid.is_none_or(|asked| asked == own)
-                    && page.is_none_or(|asked| is_same_leaf(level, asked, number))
+                    && page.is_none_or(|asked| is_same_leaf(order, asked, number))
             }
             (Cover::Second { gscid, page }, Space::Second { gscid: own }) => {
                 gscid.is_none_or(|asked| asked == own)
-                    && page.is_none_or(|asked| is_same_leaf(level, asked, number))
+                    && page.is_none_or(|asked| is_same_leaf(order, asked, number))
             }
             (
                 Cover::Both { gscid, pscid, page },
@@ -64,7 +57,7 @@ impl Cover {
             ) => {
                 gscid.is_none_or(|asked| asked == guest)
                     && pscid.is_none_or(|asked| asked == own)
-                    && page.is_none_or(|asked| is_same_leaf(level, asked, number))
+                    && page.is_none_or(|asked| is_same_leaf(order, asked, number))
             }
             (Cover::First { .. } | Cover::Second { .. } | Cover::Both { .. }, _) => false,
         }
@@ -73,7 +66,7 @@ impl Cover {
     /// The one key of which a translation from a leaf of 4 KiB is covered, where the cover leaves nothing of it open.
     pub(crate) fn only_key(&self) -> Option<(Space, u64)>
         ensures named { result ≡ named_key self.now }
-        ensures only { IfSome result (λ key. (other : Key) (cached : Translation) → cached.level ≡ 0
+        ensures only { IfSome result (λ key. (other : Key) (cached : Translation) → cached.order ≡ 0
             → covers self.now other cached ≡ is_key key other) }
     {
         match *self {
@@ -97,7 +90,7 @@ impl Cover {
     /// The one page of which translations from leaves of 4 KiB are covered, where the cover names it.
     pub(crate) fn only_page(&self) -> Option<u64>
         ensures named { result ≡ named_page self.now }
-        ensures only { IfSome result (λ page. (key : Key) (cached : Translation) → cached.level ≡ 0 → key.1 ≢ page
+        ensures only { IfSome result (λ page. (key : Key) (cached : Translation) → cached.order ≡ 0 → key.1 ≢ page
             → covers self.now key cached ≡ false) }
     {
         match *self {

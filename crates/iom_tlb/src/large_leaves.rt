@@ -38,12 +38,12 @@ impl LargeLeaves {
     }
 
     /// From now on there may be one of this address space too, if what is kept there came from such a leaf.
-    pub(crate) fn note_kept(&mut self, space: Space, level: u8)
-        ensures noted { self.new ≡ with_kept space level self.old }
-        ensures marked { may_be_large self.new space ≡ false → level ≡ 0 }
+    pub(crate) fn note_kept(&mut self, space: Space, order: u16)
+        ensures noted { self.new ≡ with_kept space order self.old }
+        ensures marked { may_be_large self.new space ≡ false → order ≡ 0 }
         ensures others { (other : Space) → may_be_large self.new other ≡ false → may_be_large self.old other ≡ false }
     {
-        if level > 0 {
+        if order > 0 {
             self.mark(space);
         }
     }

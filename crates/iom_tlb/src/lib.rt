@@ -2,7 +2,7 @@
 //!
 //! RISC-V IOMMU Architecture Specification 1.0, sections 2.1.3 (GSCID and PSCID, which name address spaces),
 //! 2.8, "Caching in-memory data structures", and 3.1.1 (IOTINVAL.VMA and IOTINVAL.GVMA). Each translation is
-//! that of one page of 4 KiB: each page of a superpage has one of its own, which keeps the level of the leaf. A
+//! that of one page of 4 KiB: each page of a superpage has one of its own, which keeps the order of the leaf. A
 //! command that names a page takes out all that came from the leaf of that page.
 //!
 //! The layers above may rely on [`TransCache`], whichever cache stands behind it: a cache is seen as its

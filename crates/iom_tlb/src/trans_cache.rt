@@ -11,9 +11,10 @@ use iom_base::Rights;
 pub struct Translation {
     pub frame: u32,
     pub rights: Rights,
-    /// How many levels of tables are below the leaf: 0 for a page of 4 KiB, 1 for a superpage of 2 MiB, and so on, 512
-    /// times as many pages a level. Through both stages it is the first stage's leaf.
-    pub level: u8,
+    /// The leaf from which it came spans 2^order pages: 0 for a page of 4 KiB, 9 for a superpage of 2 MiB, 18 for one of
+    /// 1 GiB, 4 for a NAPOT leaf of 64 KiB (Privileged Architecture, "Svnapot"). Through both stages it is the first
+    /// stage's leaf.
+    pub order: u16,
 }
 
 impl Translation {

@@ -105,7 +105,7 @@ fn drop_in_all(sets: &mut [WaySet], cover: &Cover)
 fn drop_small(sets: &mut [WaySet], cover: &Cover)
     requires invariants { AreSets sets.old }
     requires small { (key : Key) (cached : Translation) → content_of_sets sets.old key ≡ Some cached
-        → covers cover.now key cached ≡ true → cached.level ≡ 0 }
+        → covers cover.now key cached ≡ true → cached.order ≡ 0 }
     ensures dropped { DropsWhere (covers cover.now) (content_of_sets sets.old) (content_of_sets sets.new) }
     ensures invariants { AreSets sets.new }
     ensures emptied { AreOnlyEmptied sets.old sets.new }
@@ -193,7 +193,7 @@ impl TransCache for WayCache {
     {
         let set = &mut self.sets[set_of(page)];
         set.keep(space, page, translation);
-        self.large.note_kept(space, translation.level);
+        self.large.note_kept(space, translation.order);
     }
 
     // Written into the fetch of a command, where it is known which of the covers it is.

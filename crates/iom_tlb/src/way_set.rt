@@ -25,7 +25,7 @@ pub(crate) const WAYS: usize = 8;
 const NO_TRANSLATION: Translation = Translation {
     frame: 0,
     rights: Rights::R,
-    level: 0,
+    order: 0,
 };
 
 /// Eight ways, each with a translation or empty. No two have the same page of the same address space.

@@ -20,7 +20,7 @@ static SPACES: [Space; 7] = [
 static TRANSLATION: Translation = Translation {
     frame: 5,
     rights: Rights::RW,
-    level: 0,
+    order: 0,
 };
 
 /// A command, by the fields that count.

@@ -14,36 +14,42 @@ const OF_VM: Space = Space::Second { gscid: 1 };
 
 const IN_VM: Space = Space::Both { gscid: 1, pscid: 1 };
 
-/// A command, four pages of an address space, the levels of their leaves, and which of the pages stay: 1 for each.
-type Row = (Order, Space, [u64; 4], [u8; 4], [u8; 4]);
+/// A command, four pages of an address space, the orders of their leaves, and which of the pages stay: 1 for each.
+type Row = (Order, Space, [u64; 4], [u16; 4], [u8; 4]);
 
-/// A leaf of 2 MiB has 512 pages, one of 1 GiB 512 times as many: pages 0x200 to 0x3ff lie in one of level 1, pages 0x40000 to
-/// 0x7ffff in one of level 2. Any page of a leaf names it. A page that came from a leaf of 4 KiB stays, though it lies there.
+/// A leaf of 2 MiB has 512 pages, one of 1 GiB 512 times as many, one of 64 KiB has 16: pages 0x200 to 0x3ff lie in one of
+/// order 9, pages 0x40000 to 0x7ffff in one of order 18, pages 0x40 to 0x4f in one of order 4. Any page of a leaf names it. A
+/// page that came from a leaf of 4 KiB stays, though it lies there.
 #[rattlefmt::skip]
-static ROWS: [Row; 9] = [
-    (Order::Vma(None, Some(1), Some(0x200)), HOST, [0x201, 0x3ff, 0x400, 0x1ff], [1; 4], [0, 0, 1, 1]),
-    (Order::Vma(None, None, Some(0x3ff)), HOST, [0x200, 0x280, 0x400, 0x1ff], [1; 4], [0, 0, 1, 1]),
-    (Order::Vma(None, Some(1), Some(0x200)), HOST, [0x200, 0x201, 0x3ff, 0x240], [0, 0, 1, 0], [0, 1, 0, 1]),
-    (Order::Vma(None, Some(1), Some(0x40000)), HOST, [0x40001, 0x7ffff, 0x80000, 0x3ffff], [2; 4], [0, 0, 1, 1]),
-    (Order::Vma(None, Some(2), Some(0x200)), HOST, [0x200, 0x201, 0x3ff, 0x400], [1; 4], [1; 4]),
-    (Order::Gvma(Some(1), Some(0x200)), OF_VM, [0x201, 0x3ff, 0x400, 0x1ff], [1; 4], [0, 0, 1, 1]),
-    (Order::Gvma(Some(2), Some(0x200)), OF_VM, [0x201, 0x3ff, 0x400, 0x1ff], [1; 4], [1; 4]),
-    (Order::Vma(Some(1), Some(1), Some(0x200)), IN_VM, [0x201, 0x3ff, 0x400, 0x1ff], [1; 4], [0, 0, 1, 1]),
-    (Order::Vma(Some(1), None, Some(0x3ff)), IN_VM, [0x200, 0x201, 0x400, 0x1ff], [1, 0, 1, 1], [0, 1, 1, 1]),
+static ROWS: [Row; 14] = [
+    (Order::Vma(None, Some(1), Some(0x200)), HOST, [0x201, 0x3ff, 0x400, 0x1ff], [9; 4], [0, 0, 1, 1]),
+    (Order::Vma(None, None, Some(0x3ff)), HOST, [0x200, 0x280, 0x400, 0x1ff], [9; 4], [0, 0, 1, 1]),
+    (Order::Vma(None, Some(1), Some(0x200)), HOST, [0x200, 0x201, 0x3ff, 0x240], [0, 0, 9, 0], [0, 1, 0, 1]),
+    (Order::Vma(None, Some(1), Some(0x40000)), HOST, [0x40001, 0x7ffff, 0x80000, 0x3ffff], [18; 4], [0, 0, 1, 1]),
+    (Order::Vma(None, Some(2), Some(0x200)), HOST, [0x200, 0x201, 0x3ff, 0x400], [9; 4], [1; 4]),
+    (Order::Gvma(Some(1), Some(0x200)), OF_VM, [0x201, 0x3ff, 0x400, 0x1ff], [9; 4], [0, 0, 1, 1]),
+    (Order::Gvma(Some(2), Some(0x200)), OF_VM, [0x201, 0x3ff, 0x400, 0x1ff], [9; 4], [1; 4]),
+    (Order::Vma(Some(1), Some(1), Some(0x200)), IN_VM, [0x201, 0x3ff, 0x400, 0x1ff], [9; 4], [0, 0, 1, 1]),
+    (Order::Vma(Some(1), None, Some(0x3ff)), IN_VM, [0x200, 0x201, 0x400, 0x1ff], [9, 0, 9, 9], [0, 1, 1, 1]),
+    (Order::Vma(None, Some(1), Some(0x40)), HOST, [0x41, 0x4f, 0x50, 0x3f], [4; 4], [0, 0, 1, 1]),
+    (Order::Vma(None, None, Some(0x4f)), HOST, [0x40, 0x48, 0x50, 0x5f], [4; 4], [0, 0, 1, 1]),
+    (Order::Vma(None, Some(1), Some(0x45)), HOST, [0x40, 0x41, 0x4f, 0x4e], [4, 0, 4, 0], [0, 1, 0, 1]),
+    (Order::Gvma(Some(1), Some(0x40)), OF_VM, [0x41, 0x4f, 0x50, 0x3f], [4; 4], [0, 0, 1, 1]),
+    (Order::Vma(Some(1), None, Some(0x4f)), IN_VM, [0x40, 0x41, 0x4e, 0x50], [4, 0, 9, 4], [0, 1, 0, 1]),
 ];
 
-fn from_leaf(level: u8) -> Translation {
+fn from_leaf(order: u16) -> Translation {
     Translation {
         frame: 5,
         rights: Rights::RW,
-        level,
+        order,
     }
 }
 
 /// What a row's command leaves of its pages in a cache that was empty.
 fn leaves<C: TransCache>(rt: &impl Abort, cache: &mut C, row: &Row) {
-    for (page, level) in row.2.iter().zip(row.3.iter()) {
-        keep(cache, row.1, *page, from_leaf(*level));
+    for (page, order) in row.2.iter().zip(row.3.iter()) {
+        keep(cache, row.1, *page, from_leaf(*order));
     }
     invalidate(cache, &command_of(rt, &row.0));
     for n in 0..4 {

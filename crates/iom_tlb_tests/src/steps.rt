@@ -33,7 +33,7 @@ fn at(frame: u32, rights: Rights) -> Translation {
     Translation {
         frame,
         rights,
-        level: 0,
+        order: 0,
     }
 }
 

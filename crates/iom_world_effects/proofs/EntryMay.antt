@@ -82,7 +82,7 @@ entries_there (device ∷ others) id cache is entry one = elim (eqb_tells device
 pub record HasEntry (devices : List Device) (id page : ℕ) (kind : AccessKind) (frame : ℕ) : Type 0 where
   pub rights : Rights
   pub allowed : allows rights kind ≡ true
-  pub there : Contains (entries_in devices) (copy_of id page (record { frame = frame; rights = rights; level = 0 }))
+  pub there : Contains (entries_in devices) (copy_of id page (record { frame = frame; rights = rights; order = 0 }))
 
 -- that is so where a frame is found
 pub found_entry : (devices : List Device) (id page : ℕ) (kind : AccessKind) (frame : ℕ)
@@ -99,8 +99,8 @@ found_entry devices id page kind frame found = by (cache_of devices id) refl fou
         record {
           rights = one.0.rights;
           allowed = one.3;
-          there = subst (λ p. Contains (entries_in devices) (copy_of id p (record { frame = frame; rights = one.0.rights; level = 0 }))) one.1
-              (subst (λ f. Contains (entries_in devices) (copy_of id one.0.page (record { frame = f; rights = one.0.rights; level = 0 }))) one.2 (entries_there devices id cache is one.0 one.4));
+          there = subst (λ p. Contains (entries_in devices) (copy_of id p (record { frame = frame; rights = one.0.rights; order = 0 }))) one.1
+              (subst (λ f. Contains (entries_in devices) (copy_of id one.0.page (record { frame = f; rights = one.0.rights; order = 0 }))) one.2 (entries_there devices id cache is one.0 one.4));
         }
 
 -- what the device's cache has may be used: the device isn't quarantined, or its context is cached
@@ -155,18 +155,18 @@ have_merely history id frame access merely = by (holds_for history id (page_of a
 
 -- the frame of an address in memory
 own_found : (memory : List (List ℕ)) (address frame : ℕ) (kind : AccessKind) → address / 4096 ≡ frame → frame < length memory
-    → own_page memory address kind ≡ Ok (record { frame = frame; rights = of_rights.rw; level = 0 })
+    → own_page memory address kind ≡ Ok (record { frame = frame; rights = of_rights.rw; order = 0 })
 own_found memory address frame kind same inside =
-    ap (λ (n : ℕ). if nat_lt n (length memory) then Ok (record { frame = n; rights = of_rights.rw; level = 0 }) else Err (plain (access_fault_of kind))) same
-    ∙ ap (λ (b : Bool). if b then Ok (record { frame = frame; rights = of_rights.rw; level = 0 }) else Err (plain (access_fault_of kind))) (le-leb (suc frame) (length memory) inside)
+    ap (λ (n : ℕ). if nat_lt n (length memory) then Ok (record { frame = n; rights = of_rights.rw; order = 0 }) else Err (plain (access_fault_of kind))) same
+    ∙ ap (λ (b : Bool). if b then Ok (record { frame = frame; rights = of_rights.rw; order = 0 }) else Err (plain (access_fault_of kind))) (le-leb (suc frame) (length memory) inside)
 
 module _ (parts : Parts) (events id : ℕ) (access : Access) (frame : ℕ) (invariants : PartsInvariant parts events) (own : DriverInvariant parts.driver)
     (entry : HasEntry parts.devices id (page_of access) access.kind frame) (usable : IsUsable parts id) where
   abbrev copy : Copy
-  copy = copy_of id (page_of access) (record { frame = frame; rights = entry.rights; level = 0 })
+  copy = copy_of id (page_of access) (record { frame = frame; rights = entry.rights; order = 0 })
 
   -- the scene has it as one of the device's, which it may use
-  entry_in : (scene : Scene) → IsSceneOf (values_of parts) scene → Contains scene.entries (copy_of id (page_of access) (record { frame = frame; rights = entry.rights; level = 0 }))
+  entry_in : (scene : Scene) → IsSceneOf (values_of parts) scene → Contains scene.entries (copy_of id (page_of access) (record { frame = frame; rights = entry.rights; order = 0 }))
   entry_in scene shown = subst (λ l. Contains l copy) (sym (ap (λ (t : Traffic). t.entries) shown.traffic)) entry.there
 
   used_in : (scene : Scene) → IsSceneOf (values_of parts) scene → IsInUse scene id
@@ -242,7 +242,7 @@ module _ (parts : Parts) (events id : ℕ) (access : Access) (frame : ℕ) (inva
 
   -- so the translated request that the device makes of it is let through, on that frame
   pub entry_page : ServiceLaws → physical_page (ats_context_for parts.memory (registers_of parts.iommu) (contexts_of parts.iommu) id) parts.memory (at_frame frame access).address access.kind
-      ≡ Ok (record { frame = frame; rights = of_rights.rw; level = 0 })
+      ≡ Ok (record { frame = frame; rights = of_rights.rw; order = 0 })
   entry_page laws =
       ap (λ (f : Result Context Cause). physical_page f parts.memory (at_frame frame access).address access.kind) (entry_context laws).1
       ∙ own_found parts.memory (at_frame frame access).address frame access.kind (omega arith) entry_inside
@@ -250,7 +250,7 @@ module _ (parts : Parts) (events id : ℕ) (access : Access) (frame : ℕ) (inva
   module _ (state : State) (shows : PartsShow parts state) where
     -- what the facts on copies say of it, in a history with which the ledger agrees
     reachable_in : (both_stages : Bool) → in_both_stages (shown_attachment (attachment_by_id parts.driver.devices id)) ≡ both_stages → (scene : Scene) → IsSceneOf (values_of parts) scene
-        → IsFaithful scene → IsReachable both_stages state.history (copy_of id (page_of access) (record { frame = frame; rights = entry.rights; level = 0 }))
+        → IsFaithful scene → IsReachable both_stages state.history (copy_of id (page_of access) (record { frame = frame; rights = entry.rights; order = 0 }))
     reachable_in both_stages is scene shown facts =
         let kept = facts_of_history parts.driver.ledger scene state.history shown.ledger shows.ledger (λ ticket later. shows.none_later ticket (subst (λ n. n < ticket) shown.confirmed later)) facts in
         subst (λ b. IsReachable b state.history copy) (ap in_both_stages (shown.attachments id) ∙ is)

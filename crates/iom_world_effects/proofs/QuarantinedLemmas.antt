@@ -87,18 +87,18 @@ lingers_any history id frame kind none merely = by (lingers_among history histor
 
 module _ (history : History) (id page frame : ℕ) (rights : Rights) (none : (page : ℕ) → held_at history id page ≡ None) where
   abbrev Reach : Bool → Type 0
-  Reach both = IsReachable both history (copy_of id page (record { frame = frame; rights = rights; level = 0 }))
+  Reach both = IsReachable both history (copy_of id page (record { frame = frame; rights = rights; order = 0 }))
 
   -- so a copy serves it as in its former mode, and is told it
   pub accept_formerly : (mode : Mode) (access : Access) → access.address / 4096 ≡ page → allows rights access.kind ≡ true
-      → ∥ IsReachable (is_both mode) history (copy_of id page (record { frame = frame; rights = rights; level = 0 })) ∥₁ → MayAcceptFormerly mode history id access frame
+      → ∥ IsReachable (is_both mode) history (copy_of id page (record { frame = frame; rights = rights; order = 0 })) ∥₁ → MayAcceptFormerly mode history id access frame
   accept_formerly (First size) access at allowed merely =
       (rights, subst (λ p. Lingers history id p (frame, rights)) (sym at) (lingers_one history id page (frame, rights) (none page) merely), allowed)
   accept_formerly (Second size) access at allowed merely =
       (rights, subst (λ p. Lingers history id p (frame, rights)) (sym at) (lingers_one history id page (frame, rights) (none page) merely), allowed)
   accept_formerly (Both size) access at allowed merely = lingers_any history id frame access.kind none (∥∥₁_map merely (λ reach. reach access.kind allowed))
 
-  pub show_formerly : (mode : Mode) → allows rights Read ≡ true → ∥ IsReachable (is_both mode) history (copy_of id page (record { frame = frame; rights = rights; level = 0 })) ∥₁
+  pub show_formerly : (mode : Mode) → allows rights Read ≡ true → ∥ IsReachable (is_both mode) history (copy_of id page (record { frame = frame; rights = rights; order = 0 })) ∥₁
       → MayShowFormerly mode history id page frame rights
   show_formerly (First size) allowed merely = lingers_one history id page (frame, rights) (none page) merely
   show_formerly (Second size) allowed merely = lingers_one history id page (frame, rights) (none page) merely

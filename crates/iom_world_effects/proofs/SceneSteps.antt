@@ -407,9 +407,9 @@ not_true false it = refl
 covered_there : (space : Space) (named : Option ℕ) (page : ℕ) (translation : Translation) → extent_covers (extent_in space named) page ≡ true
     → are_covering (covers_of (invalidation_in space named)) (space, page) translation ≡ true
 covered_there (space.First pscid) None page translation is = rw (eq-eqb pscid pscid refl) refl
-covered_there (space.First pscid) (Some own) page translation is = rw (eq-eqb pscid pscid refl, own_leaf translation.level own page (eqb-true own page is)) refl
+covered_there (space.First pscid) (Some own) page translation is = rw (eq-eqb pscid pscid refl, own_leaf translation.order own page (eqb-true own page is)) refl
 covered_there (space.Second gscid) None page translation is = rw (eq-eqb gscid gscid refl) refl
-covered_there (space.Second gscid) (Some own) page translation is = rw (eq-eqb gscid gscid refl, own_leaf translation.level own page (eqb-true own page is)) refl
+covered_there (space.Second gscid) (Some own) page translation is = rw (eq-eqb gscid gscid refl, own_leaf translation.order own page (eqb-true own page is)) refl
 covered_there (space.Both gscid pscid) None page translation is = rw (eq-eqb gscid gscid refl) refl
 covered_there (space.Both gscid pscid) (Some own) page translation is = rw (eq-eqb gscid gscid refl) refl
 

@@ -85,15 +85,15 @@ module _ (laws : ServiceLaws) (old new : Parts) (events device page : ℕ) (inva
 
   -- a page is told
   told_page : (frame : ℕ) (rights : Rights) → (call : TellsPage old.memory old.iommu device page frame rights new.iommu)
-      → IsToldOf ioatc.SURE old.driver device (page * 4096) (translations_of old.iommu) (Ok (record { frame = frame; rights = rights; level = call.level })) (translations_of new.iommu)
+      → IsToldOf ioatc.SURE old.driver device (page * 4096) (translations_of old.iommu) (Ok (record { frame = frame; rights = rights; order = call.order })) (translations_of new.iommu)
   told_page frame rights call =
-      outcome_of_done laws old events invariants own device (page * 4096) ioatc.SURE (translations_of old.iommu) (translations_of new.iommu) (Ok (record { frame = frame; rights = rights; level = call.level })) fits call.served
+      outcome_of_done laws old events invariants own device (page * 4096) ioatc.SURE (translations_of old.iommu) (translations_of new.iommu) (Ok (record { frame = frame; rights = rights; order = call.order })) fits call.served
 
   told_sound : (frame : ℕ) (rights : Rights) → TellsPage old.memory old.iommu device page frame rights new.iommu → new.memory ≡ old.memory → PartsInvariant (answering old new) events
   told_sound frame rights call memory =
       let reply = told_page frame rights call in
       quiet_sound memory (ap (λ parts. parts.registers) call.rest) (ap (λ parts. parts.frames) call.rest) (ap (λ parts. parts.slots) call.rest) (ap (λ parts. parts.flights) call.rest) (ap (λ parts. parts.fence_snapshot) call.rest) (keeps_attached laws old events invariants own device (contexts_of new.iommu) call.contexts)
-      (change_of old device (page * 4096) Read (translations_of new.iommu) (record { frame = frame; rights = rights; level = call.level }) reply.1)
+      (change_of old device (page * 4096) Read (translations_of new.iommu) (record { frame = frame; rights = rights; order = call.order }) reply.1)
 
   -- and it is what a walk gives, or a cached translation, of a device with ATS
   told_there : (frame : ℕ) (rights : Rights) → TellsPage old.memory old.iommu device page frame rights new.iommu → (scene : Scene) → IsSceneOf (values_of (answering old new)) scene
@@ -101,10 +101,10 @@ module _ (laws : ServiceLaws) (old new : Parts) (events device page : ℕ) (inva
       × (IsWalked scene (record { device = device; page = page; pair = (frame, rights) }) ⊎ Contains scene.translations (record { device = device; page = page; pair = (frame, rights) }))
   told_there frame rights call scene shows =
       let reply = told_page frame rights call in
-      let from = served_from old device (page * 4096) Read (λ d. is_some (contexts_of new.iommu d)) (translations_of new.iommu) (record { frame = frame; rights = rights; level = call.level }) own reply.1 in
+      let from = served_from old device (page * 4096) Read (λ d. is_some (contexts_of new.iommu d)) (translations_of new.iommu) (record { frame = frame; rights = rights; order = call.order }) own reply.1 in
       let source = served_there (values_of after) scene device (page * 4096 / 4096) from.0 from.1 shows from.4 in (
         ap has_ats (shows.attachments device) ∙ reply.0,
-        subst (λ p. IsKnownTo scene device p (record { frame = frame; rights = rights; level = call.level })) at_page (subst (IsKnownTo scene device (page * 4096 / 4096)) (sym from.2) source),
+        subst (λ p. IsKnownTo scene device p (record { frame = frame; rights = rights; order = call.order })) at_page (subst (IsKnownTo scene device (page * 4096 / 4096)) (sym from.2) source),
       )
 
   -- there is no answer

@@ -276,7 +276,7 @@ module _ (laws : ServiceLaws) (old new : Parts) (events id : ℕ) (access : Acce
 
   keeps_accept : access.address < 2 ^ 64 → new.memory ≡ old.memory → (number : ℕ) → AcceptsRequest old.memory old.iommu id access number new.iommu → PartsInvariant new events
   keeps_accept fits memory number call =
-      let answer : Translation = record { frame = call.frame; rights = call.rights; level = call.level } in
+      let answer : Translation = record { frame = call.frame; rights = call.rights; order = call.order } in
       let answers = served laws old events invariants own id access.address access.kind ioatc.SURE (translations_of old.iommu) (translations_of new.iommu) (Ok answer) fits call.served in
       let from = served_from old id access.address access.kind cached translations answer own answers in
       keeps_accepted (access.address / 4096) from.1 memory number call (ap (λ (t : Translation). t.frame) from.2) from.3 (change_of old id access.address access.kind translations answer answers)

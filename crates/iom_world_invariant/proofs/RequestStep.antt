@@ -275,7 +275,7 @@ module _ (can : DeviceKind → Bool) (laws : ServiceLaws) (old new : Parts) (eve
   step_accept : new.memory ≡ old.memory → (number : ℕ) → AcceptsRequest old.memory old.iommu id access number new.iommu → Steps can state id access (outcome.Accepted number) new
   step_accept memory number call =
       let it = call.accepted in
-      let answers = served laws old events invariants own id access.address access.kind ioatc.SURE (translations_of old.iommu) (translations_of new.iommu) (Ok (record { frame = call.frame; rights = call.rights; level = call.level })) fits call.served in
+      let answers = served laws old events invariants own id access.address access.kind ioatc.SURE (translations_of old.iommu) (translations_of new.iommu) (Ok (record { frame = call.frame; rights = call.rights; order = call.order })) fits call.served in
       let next = with_accepted state (shown_device old.driver.devices (flights_of old.iommu).rows is.device) access call.frame in
       let after = accepted_shown old new events id invariants state shows is access call.frame number memory driver devices it in (
         call.frame,
@@ -284,7 +284,7 @@ module _ (can : DeviceKind → Bool) (laws : ServiceLaws) (old new : Parts) (eve
           (
             (call.within, not_busy old new events id invariants state shows is it.row it.stands it.room),
             subst (λ n. MayAccept (shown_attachment (attachment_by_id old.driver.devices n)) state n access call.frame) (sym is.own)
-                (may_accept old events state id (record { frame = call.frame; rights = call.rights; level = call.level }) access ioatc.SURE (translations_of old.iommu) (translations_of new.iommu) invariants own shows refl answers),
+                (may_accept old events state id (record { frame = call.frame; rights = call.rights; order = call.order }) access ioatc.SURE (translations_of old.iommu) (translations_of new.iommu) invariants own shows refl answers),
             after.0,
           ),
           refl,

@@ -36,7 +36,7 @@ use Rattle.iom_world_invariant.proofs.TranslatedKeeps.{never_accepted}
 pub accepted_frame : ServiceLaws → (old new : Parts) (events id : ℕ) (access : Access) (frame number : ℕ) → PartsInvariant old events → DriverInvariant old.driver
     → HasEntry old.devices id (page_of access) access.kind frame → IsUsable old id → (call : AcceptsTranslated old.memory old.iommu id (at_frame frame access) number new.iommu) → call.frame ≡ frame
 accepted_frame laws old new events id access frame number invariants own entry usable call =
-    ok_frame (record { frame = call.frame; rights = call.rights; level = call.level }) _ (call.served.0 ∙ entry_page old events id access frame invariants own entry usable laws)
+    ok_frame (record { frame = call.frame; rights = call.rights; order = call.order }) _ (call.served.0 ∙ entry_page old events id access frame invariants own entry usable laws)
   where
     ok_frame : (x y : Translation) → ◌≡◌ {A = Result Translation WalkFault} (Ok x) (Ok y) → x.frame ≡ y.frame
     ok_frame x y same = cc
@@ -58,9 +58,9 @@ module _ (laws : ServiceLaws) (old new : Parts) (events id : ℕ) (access : Acce
   -- whatever scene there is has the entry
   source : (frame : ℕ) → (entry : HasEntry old.devices id (page_of access) access.kind frame) → IsUsable old id
       → KeepsAttached (attachment_by_id old.driver.devices id) id (contexts_of old.iommu) (contexts_of new.iommu)
-      → HasSource (cached_so (values_of old) (λ d. is_some (contexts_of new.iommu d)) (translations_of new.iommu)) (copy_of id (page_of access) (record { frame = frame; rights = entry.rights; level = 0 }))
+      → HasSource (cached_so (values_of old) (λ d. is_some (contexts_of new.iommu d)) (translations_of new.iommu)) (copy_of id (page_of access) (record { frame = frame; rights = entry.rights; order = 0 }))
   source frame entry usable keeps scene shown = inr (inr (
-    subst (λ l. Contains l (copy_of id (page_of access) (record { frame = frame; rights = entry.rights; level = 0 }))) (sym (ap (λ (t : Traffic). t.entries) shown.traffic)) entry.there,
+    subst (λ l. Contains l (copy_of id (page_of access) (record { frame = frame; rights = entry.rights; order = 0 }))) (sym (ap (λ (t : Traffic). t.entries) shown.traffic)) entry.there,
     used_still usable keeps scene shown,
   ))
 
@@ -68,7 +68,7 @@ module _ (laws : ServiceLaws) (old new : Parts) (events id : ℕ) (access : Acce
       → (reply : Reply) → AnswersTranslated old.memory old.iommu id (at_frame frame access) reply new.memory new.iommu → PartsInvariant new events
   by_reply frame entry driver devices fabric (Accepted number) call = elim (usable_or old id) [
     | inl usable ↦
-        keeps_accepted laws old new events id (at_frame frame access) invariants own unchanged reported driver devices fabric below (page_of access) (record { frame = frame; rights = entry.rights; level = 0 })
+        keeps_accepted laws old new events id (at_frame frame access) invariants own unchanged reported driver devices fabric below (page_of access) (record { frame = frame; rights = entry.rights; order = 0 })
         call.1 number call.0 (accepted_frame laws old new events id access frame number invariants own entry usable call.0) entry.allowed
         (inl (λ key translation at. sym (call.0.served.1 key) ∙ at))
         (source frame entry usable (keeps_attached laws old events invariants own id (contexts_of new.iommu) call.0.contexts))

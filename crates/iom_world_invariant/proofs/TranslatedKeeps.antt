@@ -81,7 +81,7 @@ not_let laws parts events id kind invariants own there able =
 pub never_accepted : (old : Parts) (id : ℕ) (access : Access) (number : ℕ) (new : Parts) (cause : Cause)
     → ats_context_for old.memory (registers_of old.iommu) (contexts_of old.iommu) id ≡ Err cause → ¬ AcceptsTranslated old.memory old.iommu id access number new.iommu
 never_accepted old id access number new cause found call =
-    ok_err (record { frame = call.frame; rights = call.rights; level = call.level }) (plain cause)
+    ok_err (record { frame = call.frame; rights = call.rights; order = call.order }) (plain cause)
     (call.served.0 ∙ ap (λ (f : Result Context Cause). physical_page f old.memory access.address access.kind) found)
   where
     ok_err : (translation : Translation) (fault : WalkFault) → ◌≡◌ {A = Result Translation WalkFault} (Ok translation) (Err fault) → ⊥

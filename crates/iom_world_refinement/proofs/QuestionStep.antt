@@ -58,9 +58,9 @@ module _ (laws : ServiceLaws) (old new : Parts) (events device page : ℕ) (inva
   tells : (answer : Told) → AnswersQuestion old.memory old.iommu device page answer new.memory new.iommu
       → MayTell (shown_attachment (attachment_by_id old.driver.devices device)) state device page answer
   tells (Page frame rights) call =
-      let reply = outcome_of_done laws old events invariants own device (page * 4096) ioatc.SURE (translations_of old.iommu) (translations_of new.iommu) (Ok (record { frame = frame; rights = rights; level = call.0.level })) fits call.0.served in
+      let reply = outcome_of_done laws old events invariants own device (page * 4096) ioatc.SURE (translations_of old.iommu) (translations_of new.iommu) (Ok (record { frame = frame; rights = rights; order = call.0.order })) fits call.0.served in
       subst (λ p. MayTell (shown_attachment (attachment_by_id old.driver.devices device)) state device p (Page frame rights)) at_page
-      (may_tell old events state device (page * 4096) (record { frame = frame; rights = rights; level = call.0.level }) ioatc.SURE (translations_of new.iommu) invariants own shows reply.0 reply.1)
+      (may_tell old events state device (page * 4096) (record { frame = frame; rights = rights; order = call.0.order }) ioatc.SURE (translations_of new.iommu) invariants own shows reply.0 reply.1)
   tells (Refused cause) call =
       let reply = outcome_of_done laws old events invariants own device (page * 4096) ioatc.SURE (translations_of old.iommu) (translations_of new.iommu) (Err call.fault) fits call.served in
       subst (λ p. MayTell (shown_attachment (attachment_by_id old.driver.devices device)) state device p (Refused cause)) at_page

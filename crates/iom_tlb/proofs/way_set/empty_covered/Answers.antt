@@ -7,7 +7,7 @@ use Rattle.iom_tlb.proofs.way_set.empty_covered.Goals as goal
 use Rattle.iom_tlb.proofs.way_set.empty_covered.Goals.{then-is_covered, else-is_covered}
 
 abbrev nothing : Translation
-nothing = record { frame = 0; rights = record { 0 = 0 }; level = 0 }
+nothing = record { frame = 0; rights = record { 0 = 0 }; order = 0 }
 
 pub loop-way-preserved : goal.loop-way-preserved
 loop-way-preserved c = elim c.if-is_covered.branch [

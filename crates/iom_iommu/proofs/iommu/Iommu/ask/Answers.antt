@@ -28,7 +28,7 @@ returns-in-Ok-clause-answered g c =
     let old = g.C.TransCache.content c.args.self.now.translations in
     let new = g.C.TransCache.content c.translate_by.new.translations in (
       record {
-        level = c.in-Ok.translation.level;
+        order = c.in-Ok.translation.order;
         served = subst (λ found. ServesBy sure found memory (c.args.page * 4096) Read old (Ok c.in-Ok.translation) new) c.find_ats_context-found.ensures.found
             (subst (λ n. ServesBy sure c.find_ats_context-found.result memory (n * 4096) Read old (Ok c.in-Ok.translation) new) c.number-address.ensures.value c.in-Ok.ensures.served);
         inside = subst (λ n. c.in-Ok.translation.frame < n) c.requires c.in-Ok.ensures.inside;

@@ -13,6 +13,6 @@ pub returns : goal.returns
 returns c =
     let found = rw c.space_word.ensures.word at c.in_ok-way.ensures.found in
     let lowest = rw c.space_word.ensures.word at c.in_ok-way.ensures.lowest in
-    let nothing : Translation = record { frame = 0; rights = record { 0 = 0 }; level = 0 } in
+    let nothing : Translation = record { frame = 0; rights = record { 0 = 0 }; order = 0 } in
     sym (ap (λ (s : Ways). in_set s (c.args.space, c.args.page)) (sym c.self.view_is)
     ∙ looked _ c.self.invariant (c.args.space, c.args.page) c.in_ok-way.way nothing c.space_word.ensures.fits found.0 (found.1, found.2) lowest)
