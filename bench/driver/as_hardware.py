@@ -3,11 +3,12 @@
 
     as_hardware.py --write IOMMU_RUN SCRIPT NAME
         writes NAME.hw, and NAME.out with the answers that are wanted of iommu-hw: those of iommu-run, translated
-    as_hardware.py --check IOMMU_RUN IOMMU_HW [--seeds N] [--traffic] [--stepped | --nonleaf] [--mistake NAME] SCRIPT..
+    as_hardware.py --check IOMMU_RUN IOMMU_HW [--seeds N] [--traffic] [--stepped | --nonleaf | --napot] [--mistake NAME] SCRIPT..
         for each script: are hardware's answers those of the world, is each claim good, is all of memory as in the world;
         and with hardware acting by itself before each line of software, from N seeds (20): is each claim good. With
         --traffic the devices make requests then, too. With --stepped a walk takes several events, and with
-        --nonleaf hardware caches pointers to tables; answers aren't compared with the world's then. With --mistake our driver has one. --mistakes names them.
+        --nonleaf hardware caches pointers to tables, or with --napot knows leaves of 64 KiB; answers aren't compared with the
+        world's then. With --mistake our driver has one. --mistakes names them.
 
 A script with walks in several events isn't taken, nor one in which a block device gets a disk behind its detach, since hardware
 keeps its first one; nor is one that isn't in the grammar."""
@@ -475,8 +476,8 @@ def main():
     elif words[:1] == ["--check"] and len(words) > 3:
         seeds, mistake = int(option(words, "--seeds", "20")), option(words, "--mistake", None)
         traffic = "--traffic" in words
-        pace = next((f" {word[2:]}" for word in ("--stepped", "--nonleaf") if word in words), "")
-        words = [word for word in words if word not in ("--traffic", "--stepped", "--nonleaf")]
+        pace = next((f" {word[2:]}" for word in ("--stepped", "--nonleaf", "--napot") if word in words), "")
+        words = [word for word in words if word not in ("--traffic", "--stepped", "--nonleaf", "--napot")]
         if mistake and mistake not in MISTAKES:
             sys.exit(__doc__)
         sys.exit(1 if check_all(words[1], words[2], words[3:], seeds, traffic, mistake, pace) else 0)

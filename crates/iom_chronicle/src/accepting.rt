@@ -25,8 +25,14 @@ fn newest(hardware: &Board, device: DeviceId) -> Option<Target> {
 
 /// The address of the entry at which the walk to the page ended. In both stages of an entry of the second's that leads to the
 /// frame: which guest physical page it was is in no table of the host's.
-fn walked_to(hardware: &Board, context: &Context, page: u64, target: Target) -> Option<u64> {
-    let tables = tables_of(context)?;
+fn walked_to(
+    hardware: &Board,
+    napot: bool,
+    context: &Context,
+    page: u64,
+    target: Target,
+) -> Option<u64> {
+    let tables = tables_of(context, napot)?;
     match (context.first_stage, context.second_stage) {
         (FirstStage::Tables { .. }, SecondStage::Tables { .. }) => {
             tables.leaf_to(&hardware.memory, target)
@@ -102,11 +108,16 @@ impl Chronicle {
         target: Target,
     ) -> Option<Through> {
         let known = self.pointers.deepest(space, page)?;
-        let found = lead(&hardware.memory, known.what.hand(page), target.kind)?;
+        let found = lead(
+            &hardware.memory,
+            self.napot,
+            known.what.hand(page),
+            target.kind,
+        )?;
         if found.frame != target.frame {
             return None;
         }
-        let address = tables_at(&known.what).leaf_of(&hardware.memory, page)?;
+        let address = tables_at(&known.what, self.napot).leaf_of(&hardware.memory, page)?;
         Some(Through::WalkFromPointer {
             address,
             stored: self.words.at(address),
@@ -131,7 +142,7 @@ impl Chronicle {
         if let Some(through) = self.through_pointer(hardware, space, page, target) {
             return through;
         }
-        match walked_to(hardware, context, page, target) {
+        match walked_to(hardware, self.napot, context, page, target) {
             Some(address) => Through::Walk {
                 address,
                 stored: self.words.at(address),

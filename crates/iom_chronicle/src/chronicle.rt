@@ -20,6 +20,8 @@ use std::alloc::{AllocError, Global};
 #[derive(Drop)]
 pub struct Chronicle {
     pub(crate) line: u64,
+    /// Whether walks know leaves of 64 KiB.
+    pub(crate) napot: bool,
     pub(crate) words: WordLines,
     pub(crate) contexts: ContextLines,
     pub(crate) translations: TranslationLines,
@@ -31,10 +33,12 @@ pub struct Chronicle {
 }
 
 impl Chronicle {
-    /// Of hardware at power-on with so many frames. All memory is taken here but for rows of claims.
-    pub fn new(alloc: Global, frames: u32) -> Result<Chronicle, AllocError> {
+    /// Of hardware at power-on with so many frames, of which walks know leaves of 64 KiB, or don't. All memory is taken here
+    /// but for rows of claims.
+    pub fn new(alloc: Global, frames: u32, napot: bool) -> Result<Chronicle, AllocError> {
         Ok(Chronicle {
             line: 0,
+            napot,
             words: WordLines::new(alloc, frames)?,
             contexts: ContextLines::new(alloc)?,
             translations: TranslationLines::new(alloc)?,

@@ -78,24 +78,27 @@ pub(crate) fn is_bare(context: &Context) -> bool {
     space_of(context).is_none()
 }
 
-/// The tables that decide where the context leads: in both stages the second's.
-pub(crate) fn tables_of(context: &Context) -> Option<Tables> {
+/// The tables that decide where the context leads: in both stages the second's. Walks know leaves of 64 KiB, or don't.
+pub(crate) fn tables_of(context: &Context, napot: bool) -> Option<Tables> {
     match (context.first_stage, context.second_stage) {
         (FirstStage::Bare, SecondStage::Bare) => None,
         (FirstStage::Tables { size, root }, SecondStage::Bare) => Some(Tables {
             stage: Stage::First,
             root: root.number(),
             levels: size.levels(),
+            napot,
         }),
         (FirstStage::Bare, SecondStage::Tables { size, root }) => Some(Tables {
             stage: Stage::Second,
             root: root.number(),
             levels: size.levels(),
+            napot,
         }),
         (FirstStage::Tables { .. }, SecondStage::Tables { size, root }) => Some(Tables {
             stage: Stage::Second,
             root: root.number(),
             levels: size.levels(),
+            napot,
         }),
     }
 }

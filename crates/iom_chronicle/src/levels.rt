@@ -2,6 +2,7 @@
 ghost use Rattle.std.specs.Prelude.{◌<◌, ◌≤◌};
 
 use iom_base::{AccessKind, ENTRY_SIZE, PAGE_SIZE, Rights, TABLE_ENTRIES};
+use iom_napot::entry_in;
 use iom_phys_mem::{Bytes, MAX_FRAMES, Memory};
 use iom_stage_walk::{Entry, entry_at};
 
@@ -64,6 +65,8 @@ pub(crate) struct Tables {
     pub(crate) stage: Stage,
     pub(crate) root: u64,
     pub(crate) levels: usize,
+    /// Whether walks know leaves of 64 KiB.
+    pub(crate) napot: bool,
 }
 
 /// The pages that an entry spans above so many levels; at most four are there.
@@ -78,6 +81,14 @@ fn span_above(levels: usize) -> u64
     }
 }
 
+/// The entry at an index of a table above so many levels, as walks read it.
+fn entry_above(memory: &Memory, napot: bool, table: u64, index: u16, below: usize) -> Entry {
+    if napot && below == 0 {
+        return entry_in(memory, true, table, index, 0).entry;
+    }
+    entry_at(memory, table, index)
+}
+
 /// The address of the entry at an index of a table.
 fn entry_address(table: u64, index: u16) -> u64 {
     table
@@ -85,13 +96,17 @@ fn entry_address(table: u64, index: u16) -> u64 {
         .saturating_add(ENTRY_SIZE * u64::from(index))
 }
 
-/// The address of the first leaf of a table that maps the target.
-fn leaf_in_table(memory: &Memory, table: u64, target: Target, span: u64) -> Option<u64>
-    requires span { 0 < span }
-{
+/// The address of the first leaf of a table, above so many levels, that maps the target.
+fn leaf_in_table(
+    memory: &Memory,
+    napot: bool,
+    table: u64,
+    target: Target,
+    below: usize,
+) -> Option<u64> {
     for index in 0..TABLE_ENTRIES as u16 {
-        if let Entry::Leaf(base, rights) = entry_at(memory, table, index) {
-            if target.is_mapped(base, rights, span) {
+        if let Entry::Leaf(base, rights) = entry_above(memory, napot, table, index, below) {
+            if target.is_mapped(base, rights, span_above(below)) {
                 return Some(entry_address(table, index));
             }
         }
@@ -100,13 +115,17 @@ fn leaf_in_table(memory: &Memory, table: u64, target: Target, span: u64) -> Opti
 }
 
 /// The same of the tables of a level.
-fn leaf_in_level(memory: &Memory, level: &Level, target: Target, span: u64) -> Option<u64>
-    requires span { 0 < span }
-{
+fn leaf_in_level(
+    memory: &Memory,
+    napot: bool,
+    level: &Level,
+    target: Target,
+    below: usize,
+) -> Option<u64> {
     for table in 0..memory.frames() {
         let table = u64::from(table);
         if level.has(table) {
-            if let Some(address) = leaf_in_table(memory, table, target, span) {
+            if let Some(address) = leaf_in_table(memory, napot, table, target, below) {
                 return Some(address);
             }
         }
@@ -158,7 +177,7 @@ impl Tables {
     pub(crate) fn leaf_to(self, memory: &Memory, target: Target) -> Option<u64> {
         let mut level = self.root_level();
         for below in (0..self.levels).rev() {
-            let found = leaf_in_level(memory, &level, target, span_above(below));
+            let found = leaf_in_level(memory, self.napot, &level, target, below);
             if found.is_some() {
                 return found;
             }
@@ -195,7 +214,7 @@ impl Tables {
         let mut table = self.root;
         for below in (0..self.levels).rev() {
             let index = self.index_of(page, below);
-            match entry_at(memory, table, index) {
+            match entry_above(memory, self.napot, table, index, below) {
                 Entry::Pointer(next) => table = next,
                 Entry::Leaf(_, _) => return Some(entry_address(table, index)),
                 Entry::Outside | Entry::Invalid => return None,

@@ -14,12 +14,13 @@ pub(crate) struct PointerLines {
     before: Vec<Since<Pointer>>,
 }
 
-/// The tables from there on.
-pub(crate) fn tables_at(pointer: &Pointer) -> Tables {
+/// The tables from there on, where walks know leaves of 64 KiB, or don't.
+pub(crate) fn tables_at(pointer: &Pointer, napot: bool) -> Tables {
     Tables {
         stage: Stage::First,
         root: pointer.table.number(),
         levels: pointer.level as usize + 1,
+        napot,
     }
 }
 

@@ -9,12 +9,12 @@ use iom_base::DeviceId;
 use iom_board::Board;
 use iom_tlb::Space;
 
-/// Whether walks by the device's context in that place read the frame as a table.
+/// Whether walks by the device's context in that place read the frame as a table. Which leaves they know changes nothing in that.
 fn walks_read(hardware: &Board, device: DeviceId, place: ContextPlace, frame: u32) -> bool {
     let Some(context) = context_at(hardware, device, place) else {
         return false;
     };
-    match tables_of(&context) {
+    match tables_of(&context, false) {
         Some(tables) => tables.read(&hardware.memory, frame),
         None => false,
     }
@@ -116,7 +116,7 @@ impl Chronicle {
     /// The same by a cached pointer.
     fn pointed_use(&self, hardware: &Board, frame: u32) -> Option<Use> {
         for own in self.pointers.kept.iter() {
-            if tables_at(&own.what).read(&hardware.memory, frame) {
+            if tables_at(&own.what, false).read(&hardware.memory, frame) {
                 return Some(Use::PointedTable {
                     walker: first_in(hardware, own.what.space),
                     since: own.line,

@@ -178,7 +178,9 @@ impl Chronicle {
         target: Target,
     ) -> Option<WayFound> {
         for context in [ContextPlace::Stored, ContextPlace::Cached] {
-            if let Some(address) = leaf_by(hardware, device, context, contexts, target) {
+            if let Some(address) = leaf_by(
+                hardware, self.napot, device, context, contexts, target,
+            ) {
                 let since = self.entry_since(device, context, address);
                 return Some(WayFound::Entry {
                     walker,
@@ -200,7 +202,10 @@ impl Chronicle {
     ) -> Option<WayFound> {
         for own in self.pointers.kept.iter() {
             if contexts.are_in(own.what.space) {
-                if let Some(address) = tables_at(&own.what).leaf_to(&hardware.memory, target) {
+                if let Some(address) = tables_at(&own.what, self.napot).leaf_to(
+                    &hardware.memory,
+                    target,
+                ) {
                     let since = own.line.max(self.words.at(address));
                     return Some(WayFound::PointedEntry { address, since });
                 }
@@ -271,6 +276,7 @@ impl Chronicle {
 /// of these contexts.
 fn leaf_by(
     hardware: &Board,
+    napot: bool,
     device: DeviceId,
     place: ContextPlace,
     contexts: &Contexts,
@@ -281,5 +287,5 @@ fn leaf_by(
     if !contexts.are_in(space) {
         return None;
     }
-    tables_of(&context)?.leaf_to(&hardware.memory, target)
+    tables_of(&context, napot)?.leaf_to(&hardware.memory, target)
 }

@@ -62,7 +62,7 @@ impl Machine {
     /// At power-on. Boxed: of what a test owns in place each later proof would carry every part.
     fn at_power_on(rt: &impl Abort, alloc: Global) -> Box<Machine> {
         let hardware = Board::new(alloc, FRAMES, &[]).expect(rt, "memory for the hardware");
-        let chronicle = Chronicle::new(alloc, FRAMES).expect(rt, "memory for the chronicle");
+        let chronicle = Chronicle::new(alloc, FRAMES, false).expect(rt, "memory for the chronicle");
         let chronicle = Box::new(alloc, chronicle).expect(rt, "memory for the chronicle");
         let machine = Machine {
             hardware,

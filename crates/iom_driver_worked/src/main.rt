@@ -4,7 +4,7 @@
 //! `data/drivers` has each script with its answers: correct drivers, drivers with one mistake each, scripts in which
 //! something is certain only as long as nobody but the driver writes what hardware reads, some in which a block device
 //! serves its queue, some in which each load of a walk is an event of its own, some in which hardware caches pointers to tables, some in which
-//! hardware acts by itself, and the model's own driver as lines of hardware. A script's own text is run as `iommu-hw` runs
+//! it knows leaves of 64 KiB, some in which it acts by itself, and the model's own driver as lines of hardware. A script's own text is run as `iommu-hw` runs
 //! it.
 #![tactic(auto)]
 
@@ -12,7 +12,7 @@ use iom_hardware_runner::run;
 use std::{fs, io};
 
 /// The scripts of `data/drivers`. A new one is its two files and a line here.
-static DRIVERS: [&str; 67] = [
+static DRIVERS: [&str; 73] = [
     "correct-first",
     "correct-second",
     "correct-ats",
@@ -67,6 +67,12 @@ static DRIVERS: [&str; 67] = [
     "pointer-ats",
     "pointer-reused-number",
     "pointer-replaced-table",
+    "napot-leaf",
+    "napot-forms",
+    "napot-pointer",
+    "napot-unknown",
+    "napot-ats",
+    "napot-second-stage",
     "auto-correct-first",
     "auto-correct-ats",
     "auto-fence-first",

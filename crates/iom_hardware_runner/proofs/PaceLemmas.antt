@@ -28,7 +28,7 @@ same_beside old new same = ap takes_several same
 by_event : (beside : Beside) (event : Event) (answer : Answer) (old new : ShownHardware) → EventBy beside event answer old new → takes_several new.beside ≡ takes_several beside
 by_event Nothing event answer old new effect = ap takes_several effect.1
 by_event (UnderWay rows) event answer old new (new_rows, is, effect) = ap takes_several is
-by_event (Pointers pointers) event answer old new (new_pointers, is, effect) = ap takes_several is
+by_event (Pointers features pointers) event answer old new (new_pointers, is, effect) = ap takes_several is
 
 any_event : (event : Event) (answer : Answer) (old new : ShownHardware) → EventOrNone event answer old new → KeepsPace old new
 any_event event answer old new effect = by (is_of_hardware event) refl
@@ -40,7 +40,7 @@ any_event event answer old new effect = by (is_of_hardware event) refl
 -- the next load of a walk
 by_load : (beside : Beside) (device : ℕ) (answer : Answer) (old new : ShownHardware) → old.beside ≡ beside → LoadsBy beside device answer old new → KeepsPace old new
 by_load Nothing device answer old new is (told, same) = same_beside old new same.beside
-by_load (Pointers pointers) device answer old new is (told, same) = same_beside old new same.beside
+by_load (Pointers features pointers) device answer old new is (told, same) = same_beside old new same.beside
 by_load (UnderWay rows) device answer old new is (new_rows, leaves, effect) = ap takes_several leaves ∙ sym (ap takes_several is)
 
 -- a write of a register

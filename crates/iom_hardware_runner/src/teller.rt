@@ -77,14 +77,23 @@ fn entrance_of(event: &Event) -> Option<(DeviceId, u64, Entrance)> {
     }
 }
 
+/// Whether walks of the session's hardware know leaves of 64 KiB.
+fn knows_napot(session: &Session) -> bool {
+    match session.features() {
+        Some(features) => features.napot,
+        None => false,
+    }
+}
+
 impl Teller {
     pub(crate) fn new(alloc: Global, session: Session, frames: u32) -> Result<Teller, AllocError>
         ensures { IfOk result (λ teller. (teller.session ≡ session) × (teller.is_wrong ≡ false)) }
     {
+        let napot = knows_napot(&session);
         Ok(Teller {
             alloc,
             session,
-            chronicle: Chronicle::new(alloc, frames)?,
+            chronicle: Chronicle::new(alloc, frames, napot)?,
             buffer: LineBuffer::new(alloc)?,
             is_wrong: false,
         })

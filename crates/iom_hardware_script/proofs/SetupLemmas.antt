@@ -1,5 +1,5 @@
 -- A line says which hardware there is by its one number, and by the word behind that where there is one.
-use Rattle.std.proofs.Common.{◌≡◌, ℕ, ◌⊎◌, inl, inr, List, [], ◌++◌, Some, None, codes, ap, sym, subst, refl, ◌∙◌}
+use Rattle.std.proofs.Common.{◌≡◌, ◌==◌, ℕ, ◌⊎◌, inl, inr, List, [], ◌∷◌, ◌++◌, length, Option, Some, None, codes, if◌then◌else◌, ap, sym, subst, refl, ◌∙◌}
 use Rattle.std.proofs.lemmas.List.{append_cancel_left}
 use Rattle.iom_script.specs.Words.{◌␣◌, IsNumber}
 use Rattle.iom_script.specs.Reading.{Reads}
@@ -7,10 +7,9 @@ use Rattle.iom_script.proofs.ReadsLemmas.{reads_some, reads_none, read_holds, re
 use Rattle.iom_script.proofs.CutLemmas.{cut_has_separator}
 use Rattle.iom_script.proofs.DecimalLemmas.{number_without_space}
 use Rattle.iom_script.proofs.FieldLemmas.{Followed}
-use Rattle.iom_script.proofs.EventLemmas.{never_both}
 use Rattle.iom_script.proofs.SameLemmas.{SaysOne, number_same, followed_same}
 use Rattle.iom_hardware_script.specs.declared.script.Pace.{Pace}
-use Rattle.iom_hardware_script.specs.declared.script.Pace.TheVariants.{Whole, Stepped, Pointed}
+use Rattle.iom_hardware_script.specs.declared.script.Pace.TheVariants.{Whole, Stepped, Pointed, Napot, PointedNapot}
 use Rattle.iom_hardware_script.specs.declared.script.Setup.{Setup}
 use Rattle.iom_hardware_script.specs.Grammar.{setup_words, IsFrameCount, IsSetupLine}
 use Rattle.iom_hardware_script.specs.Parts.{paced_words, IsPaceWord, IsSizeAndPace}
@@ -19,33 +18,60 @@ use Rattle.iom_hardware_script.specs.Parts.{paced_words, IsPaceWord, IsSizeAndPa
 abbrev pub SaidOf : List ℕ → ℕ × Pace → Type 0
 SaidOf words said = IsSizeAndPace words said.0 said.1
 
+-- the words of each pace, and of none other
+abbrev word_of : Pace → Option (List ℕ)
+word_of Whole = None
+word_of Stepped = Some (codes "stepped")
+word_of Pointed = Some (codes "nonleaf")
+word_of Napot = Some (codes "napot")
+word_of PointedNapot = Some (codes "nonleaf napot")
+
+named_by : (word : List ℕ) (pace : Pace) → IsPaceWord word pace → word_of pace ≡ Some word
+named_by word Whole is = absurd is
+named_by word Stepped is = ap (λ w. Some w) (sym is)
+named_by word Pointed is = ap (λ w. Some w) (sym is)
+named_by word Napot is = ap (λ w. Some w) (sym is)
+named_by word PointedNapot is = ap (λ w. Some w) (sym is)
+
+-- "stepped" and "nonleaf" are as long, but begin otherwise
+abbrev first_of : Option (List ℕ) → ℕ
+first_of None = 0
+first_of (Some []) = 0
+first_of (Some (first ∷ rest)) = first
+
+abbrev long_of : Option (List ℕ) → ℕ
+long_of None = 0
+long_of (Some word) = length word
+
+abbrev pace_of_word : Option (List ℕ) → Pace
+pace_of_word word = if first_of word == 115 then Stepped else if long_of word == 7 then Pointed else if long_of word == 5 then Napot else if long_of word == 13 then PointedNapot else Whole
+
+told_back : (pace : Pace) → pace_of_word (word_of pace) ≡ pace
+told_back Whole = refl
+told_back Stepped = refl
+told_back Pointed = refl
+told_back Napot = refl
+told_back PointedNapot = refl
+
 -- a word names one pace
 pace_same : SaysOne IsPaceWord
-pace_same word Whole b p q = absurd p
-pace_same word a Whole p q = absurd q
-pace_same word Stepped Stepped p q = refl
-pace_same word Pointed Pointed p q = refl
-pace_same word Stepped Pointed p q = absurd (never_both (codes "stepped") (codes "nonleaf") [] [] refl (sym p ∙ q))
-pace_same word Pointed Stepped p q = absurd (never_both (codes "nonleaf") (codes "stepped") [] [] refl (sym p ∙ q))
+pace_same word a b p q = sym (told_back a) ∙ ap pace_of_word (named_by word a p ∙ sym (named_by word b q)) ∙ told_back b
 
 -- a word that names a pace is read so
-named : (word : List ℕ) (pace : Pace) → IsPaceWord word pace → Reads (Some pace) (IsPaceWord word)
+pub named : (word : List ℕ) (pace : Pace) → IsPaceWord word pace → Reads (Some pace) (IsPaceWord word)
 named word pace is = reads_some (IsPaceWord word) pace is (λ other q. pace_same word pace other is q)
 
-pub stepped_named : (word : List ℕ) → word ≡ codes "stepped" → Reads (Some Stepped) (IsPaceWord word)
-stepped_named word is = named word Stepped is
-
-pub nonleaf_named : (word : List ℕ) → word ≡ codes "nonleaf" → Reads (Some Pointed) (IsPaceWord word)
-nonleaf_named word is = named word Pointed is
-
 -- any other word names no pace
-pub none_named : (word : List ℕ) → (word ≡ codes "stepped" → ⊥) → (word ≡ codes "nonleaf" → ⊥) → Reads None (IsPaceWord word)
-none_named word not_stepped not_nonleaf = reads_none (IsPaceWord word) nothing
+pub none_named : (word : List ℕ) → (word ≡ codes "stepped" → ⊥) → (word ≡ codes "nonleaf" → ⊥) → (word ≡ codes "napot" → ⊥) → (word ≡ codes "nonleaf napot" → ⊥)
+    → Reads None (IsPaceWord word)
+none_named word not_stepped not_nonleaf not_napot not_both_words = reads_none (IsPaceWord word) nothing
   where
     nothing : (pace : Pace) → IsPaceWord word pace → ⊥
     nothing Whole q = q
     nothing Stepped q = not_stepped q
     nothing Pointed q = not_nonleaf q
+    nothing Napot q = not_napot q
+    nothing PointedNapot q = not_both_words q
 
 -- a number with the word of its pace behind it
 abbrev Paced : List ℕ → ℕ × Pace → Type 0
@@ -56,12 +82,16 @@ alone_or_paced : (words : List ℕ) (said : ℕ × Pace) → SaidOf words said �
 alone_or_paced words (n, Whole) q = inl (subst (λ t. IsNumber t n) (sym q.2) q.1, refl)
 alone_or_paced words (n, Stepped) q = inr (codes "stepped", (q.0, q.1, q.2), refl)
 alone_or_paced words (n, Pointed) q = inr (codes "nonleaf", (q.0, q.1, q.2), refl)
+alone_or_paced words (n, Napot) q = inr (codes "napot", (q.0, q.1, q.2), refl)
+alone_or_paced words (n, PointedNapot) q = inr (codes "nonleaf napot", (q.0, q.1, q.2), refl)
 
 -- such a number says both
 paced_said : (words : List ℕ) (said : ℕ × Pace) → Paced words said → SaidOf words said
 paced_said words (n, Whole) q = absurd q.2
 paced_said words (n, Stepped) q = (q.1.0, q.1.1, q.1.2 ∙ ap (λ t. q.1.0 ␣ t) q.2)
 paced_said words (n, Pointed) q = (q.1.0, q.1.1, q.1.2 ∙ ap (λ t. q.1.0 ␣ t) q.2)
+paced_said words (n, Napot) q = (q.1.0, q.1.1, q.1.2 ∙ ap (λ t. q.1.0 ␣ t) q.2)
+paced_said words (n, PointedNapot) q = (q.1.0, q.1.1, q.1.2 ∙ ap (λ t. q.1.0 ␣ t) q.2)
 
 -- a number alone has no word behind it
 not_both : (words : List ℕ) (m : ℕ) (said : ℕ × Pace) → IsNumber words m → Paced words said → ⊥
@@ -115,6 +145,8 @@ words_behind : (pace : Pace) (f : List ℕ) → setup_words pace f ≡ codes "ha
 words_behind Whole f = refl
 words_behind Stepped f = refl
 words_behind Pointed f = refl
+words_behind Napot f = refl
+words_behind PointedNapot f = refl
 
 -- the number and the pace of hardware
 abbrev said_of : Setup → ℕ × Pace

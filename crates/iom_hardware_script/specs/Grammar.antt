@@ -13,7 +13,7 @@ use Rattle.iom_hardware_script.specs.declared.script.HardwareLine.{HardwareLine}
 use Rattle.iom_hardware_script.specs.declared.script.HardwareLine.TheVariants as says
 use Rattle.iom_hardware_script.specs.declared.script.NumberedLine.{NumberedLine}
 use Rattle.iom_hardware_script.specs.declared.script.Pace.{Pace}
-use Rattle.iom_hardware_script.specs.declared.script.Pace.TheVariants.{Whole, Stepped, Pointed}
+use Rattle.iom_hardware_script.specs.declared.script.Pace.TheVariants.{Whole, Stepped, Pointed, Napot, PointedNapot}
 use Rattle.iom_hardware_script.specs.declared.script.Setup.{Setup}
 use Rattle.iom_hardware_script.specs.declared.script.HardwareScript.{HardwareScript}
 
@@ -99,13 +99,17 @@ IsHardwareLine line (says.Load device) =
 abbrev pub IsFrameCount : ℕ → Type 0
 IsFrameCount frames = (64 ≤ frames) × (frames ≤ 4096)
 
--- a first line, by the word of its number: the pace is named where each load is an event of its own, and where pointers to tables are cached too
+-- a first line, by the word of its number: the pace is named where each load is an event of its own, where pointers to tables are cached too, and where walks
+-- know leaves of 64 KiB
 abbrev pub setup_words : Pace → List ℕ → List ℕ
 setup_words Whole f = codes "hardware" ␣ f
 setup_words Stepped f = codes "hardware" ␣ f ␣ codes "stepped"
 setup_words Pointed f = codes "hardware" ␣ f ␣ codes "nonleaf"
+setup_words Napot f = codes "hardware" ␣ f ␣ codes "napot"
+setup_words PointedNapot f = codes "hardware" ␣ f ␣ codes "nonleaf napot"
 
--- the line, without its line feed, says how many frames the memory of the hardware has, how many events a walk takes, and where it may begin
+-- the line, without its line feed, says how many frames the memory of the hardware has, how many events a walk takes, where it may begin, and which leaves it
+-- knows
 abbrev pub IsSetupLine : List ℕ → Setup → Type 0
 IsSetupLine line setup =
     (f : List ℕ) × IsNumber f setup.frames × IsFrameCount setup.frames × (line ≡ setup_words setup.pace f)

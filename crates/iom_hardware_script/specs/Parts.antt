@@ -7,7 +7,7 @@ use Rattle.iom_hardware_script.specs.declared.script.Help.TheVariants as helps
 use Rattle.iom_hardware_script.specs.declared.script.HardwareLine.{HardwareLine}
 use Rattle.iom_hardware_script.specs.declared.script.HardwareLine.TheVariants as says
 use Rattle.iom_hardware_script.specs.declared.script.Pace.{Pace}
-use Rattle.iom_hardware_script.specs.declared.script.Pace.TheVariants.{Whole, Stepped, Pointed}
+use Rattle.iom_hardware_script.specs.declared.script.Pace.TheVariants.{Whole, Stepped, Pointed, Napot, PointedNapot}
 use Rattle.iom_script.specs.Words.{◌␣◌, IsNumber}
 use Rattle.iom_hardware_script.specs.Grammar.{IsClaim, IsHelp, IsHardwareLine}
 
@@ -101,12 +101,16 @@ abbrev pub IsPaceWord : List ℕ → Pace → Type 0
 IsPaceWord word Whole = ⊥
 IsPaceWord word Stepped = word ≡ codes "stepped"
 IsPaceWord word Pointed = word ≡ codes "nonleaf"
+IsPaceWord word Napot = word ≡ codes "napot"
+IsPaceWord word PointedNapot = word ≡ codes "nonleaf napot"
 
 -- what stands behind `hardware`: the word of a number, and that of the pace where it is named
 abbrev pub paced_words : Pace → List ℕ → List ℕ
 paced_words Whole f = f
 paced_words Stepped f = f ␣ codes "stepped"
 paced_words Pointed f = f ␣ codes "nonleaf"
+paced_words Napot f = f ␣ codes "napot"
+paced_words PointedNapot f = f ␣ codes "nonleaf napot"
 
 -- the words behind `hardware` say the number and the pace
 abbrev pub IsSizeAndPace : List ℕ → ℕ → Pace → Type 0

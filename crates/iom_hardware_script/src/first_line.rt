@@ -20,7 +20,7 @@ fn is_frame_count(frames: u64) -> bool
     (FEWEST_FRAMES..=MOST_FRAMES).contains(&frames)
 }
 
-/// The pace that a word names.
+/// The pace that a word names, or two words.
 fn pace_of(word: &[u8]) -> Option<Pace>
     ensures { Reads result (IsPaceWord word.now) }
 {
@@ -29,6 +29,12 @@ fn pace_of(word: &[u8]) -> Option<Pace>
     }
     if is_word(word, b"nonleaf") {
         return Some(Pace::Pointed);
+    }
+    if is_word(word, b"napot") {
+        return Some(Pace::Napot);
+    }
+    if is_word(word, b"nonleaf napot") {
+        return Some(Pace::PointedNapot);
     }
     None
 }

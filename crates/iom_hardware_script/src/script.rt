@@ -56,7 +56,7 @@ pub enum Help {
     Quiesce,
 }
 
-/// How many events a walk takes, and where it may begin.
+/// How many events a walk takes, where it may begin, and which leaves it knows.
 #[derive(Clone, Copy, PartialEq, Eq)]
 pub enum Pace {
     /// All loads of a walk are made in one event.
@@ -65,6 +65,10 @@ pub enum Pace {
     Stepped,
     /// A walk is one event, and may begin at a table that a cached non-leaf entry names.
     Pointed,
+    /// A walk is one event, and knows leaves of 64 KiB (Privileged Architecture, "Svnapot").
+    Napot,
+    /// Both.
+    PointedNapot,
 }
 
 /// The hardware that a script begins with.

@@ -42,6 +42,17 @@ const BAD_FIRST: &[u8] = b"\
     |#\nhardware 63 nonleaf\n\
     |#\nhardware 4097 nonleaf\n\
     |#\nhardware nonleaf\n\
+    |#\nhardware 64 napot\
+    |#\nhardware 64 Napot\n\
+    |#\nhardware 64 napots\n\
+    |#\nhardware 64 napot \n\
+    |#\nhardware 64 napot nonleaf\n\
+    |#\nhardware 64 napot napot\n\
+    |#\nhardware 64 nonleaf  napot\n\
+    |#\nhardware 64 nonleafnapot\n\
+    |#\nhardware 64 stepped napot\n\
+    |#\nhardware 63 napot\n\
+    |#\nhardware 4097 nonleaf napot\n\
     |#\nhardware 64 1\n\
     |#\nhardware 64\
     |#\nHardware 64\n\
@@ -70,6 +81,10 @@ fn first_lines_say_hardware(rt: HostRuntime) {
     expect(&rt, is_hardware(smallest, 64, Pace::Pointed));
     let largest = setup_of(b"hardware 4096 nonleaf");
     expect(&rt, is_hardware(largest, 4096, Pace::Pointed));
+    let smallest = setup_of(b"hardware 64 napot");
+    expect(&rt, is_hardware(smallest, 64, Pace::Napot));
+    let largest = setup_of(b"hardware 4096 nonleaf napot");
+    expect(&rt, is_hardware(largest, 4096, Pace::PointedNapot));
     expect(&rt, setup_of(b"hardware 4097").is_none());
     expect(&rt, setup_of(b"hardware 4097 stepped").is_none());
     expect(&rt, setup_of(b"hardware 4097 nonleaf").is_none());

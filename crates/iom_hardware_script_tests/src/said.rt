@@ -290,13 +290,13 @@ fn a_script_may_be_stepped(rt: HostRuntime) {
     }
 }
 
-// The same, where pointers to tables are cached: a `load` is in the grammar there too.
+// The same, where pointers to tables are cached, and leaves of 64 KiB known: a `load` is in the grammar there too.
 #[test]
 fn a_script_may_cache_pointers(rt: HostRuntime) {
     let bytes =
-        b"# pointers to tables are cached\nhardware 64 nonleaf\nread 000001 0x3000 4\nload 000001\n";
+        b"# pointers are cached\nhardware 64 nonleaf napot\nread 000001 0x3000 4\nload 000001\n";
     let script = script_of(&rt, rt.alloc(), bytes);
-    expect(&rt, is_hardware(script.setup, 64, Pace::Pointed));
+    expect(&rt, is_hardware(script.setup, 64, Pace::PointedNapot));
     let lines = script.lines.as_slice();
     expect(&rt, lines.len() == 2);
     for (said, name) in lines.iter().zip(["read", "load"].iter()) {

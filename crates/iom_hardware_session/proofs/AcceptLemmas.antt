@@ -1,6 +1,6 @@
 -- What is found ready is what the IOMMU answers.
-use Rattle.std.proofs.Common.{◌≡◌, ◌∙◌, ◌/◌, ◌^◌, ◌<◌, ◌≤◌, ◌⊎◌, inl, inr, ℕ, Bool, true, false, List, length, Option, None, Some, Result, Ok, Err, IfSome, if◌then◌else◌, ◌&&◌, nat_lt, ltb-false, refl, sym, ap, subst, arith}
-use Rattle.iom_base.specs.Rights.{allows, rw}
+use Rattle.std.proofs.Common.{◌≡◌, ◌≢◌, ◌∙◌, ◌/◌, ◌^◌, ◌<◌, ◌≤◌, ◌⊎◌, inl, inr, ℕ, Bool, true, false, List, length, Option, None, Some, Result, Ok, Err, IfSome, if◌then◌else◌, ◌&&◌, nat_lt, ltb-false, refl, sym, ap, subst, arith}
+use Rattle.iom_base.specs.Rights.{rw}
 use Rattle.iom_base.specs.Sizes.{levels_of}
 use Rattle.iom_base.specs.Tables.{access_fault_of}
 use Rattle.iom_base.specs.declared.access.AccessKind.{AccessKind}
@@ -20,7 +20,7 @@ use Rattle.iom_device_dir.specs.declared.stages.SecondStage.{SecondStage}
 use Rattle.iom_device_dir.specs.declared.stages.SecondStage.TheVariants as second
 use Rattle.iom_hardware_session.specs.Accepted.{frame_answered, AnswersAre, HasOneStage, IsOneStage, ReadyIsAccepted, UnreadyIsNotAccepted}
 use Rattle.iom_hardware_session.specs.Found.{frame_found}
-use Rattle.iom_hardware_session.specs.Ready.{address_of, looked_space, ContextFinds, FindsFrame, LookFinds, ModeFinds, RequestFinds, SpaceFinds, StagesFind, WalkFinds}
+use Rattle.iom_hardware_session.specs.Ready.{address_of, looked_space, ContextFinds, FindsFrame, FindsInstead, LookFinds, ModeFinds, RequestFinds, SpaceFinds, StagesFind, WalkFinds}
 use Rattle.iom_hardware_session.specs.declared.answer.Found.{Found}
 use Rattle.iom_hardware_session.specs.declared.answer.Found.TheVariants.{NoContext, Walk}
 use Rattle.iom_iommu.specs.Parts.{contexts_of, registers_of, translations_of}
@@ -207,12 +207,11 @@ module _ (sure : Bool) (parts : BoardParts) (id address : ℕ) (low : address < 
       → ServesIn sure (mode_in parts) (or_cause (mode_in parts)) parts.memory address kind (translations_of parts.iommu) answer new → Agrees
   agrees = by_mode (mode_in parts) refl
 
--- where each access that the right allows finds the frame, each request is answered by it
-pub answered_by_frame : (parts : BoardParts) (id page frame : ℕ) (rights : Rights) → ((kind : AccessKind) → allows rights kind ≡ true → FindsFrame parts id page frame kind)
-    → IfSome (context_found parts id) HasOneStage → IsInMemory parts.memory frame → (kind : AccessKind) → allows rights kind ≡ true
-    → AnswersAre (λ answered. answered ≡ Some frame) parts id page kind
-answered_by_frame parts id page frame rights finds alone inside kind allowed access answer new of low at serves =
-    let (found, by, is) = subst (λ (p : ℕ). FindsFrame parts id p frame access.kind) (sym at) (finds access.kind (ap (allows rights) of ∙ allowed)) in
+-- where such an access finds the frame, each request is answered by it
+pub answered_by_frame : (parts : BoardParts) (id page frame : ℕ) (kind : AccessKind) → FindsFrame false parts id page frame kind → IfSome (context_found parts id) HasOneStage
+    → IsInMemory parts.memory frame → AnswersAre (λ answered. answered ≡ Some frame) parts id page kind
+answered_by_frame parts id page frame kind finds alone inside access answer new of low at serves =
+    let (found, by, is) = subst (λ (p : ℕ). FindsFrame false parts id p frame access.kind) (sym at) (subst (FindsFrame false parts id page frame) (sym of) finds) in
     elim (agrees _ parts id access.address low access.kind found answer new by alone serves) [
       | inl same ↦ same ∙ is
       | inr (outside, own, none) ↦ let same : access.address / 4096 ≡ frame = some_is (access.address / 4096) frame (sym own ∙ is) in absurd (omega (arith, outside, same, inside))
@@ -220,22 +219,18 @@ answered_by_frame parts id page frame rights finds alone inside kind allowed acc
 
 pub ready_accepted : ReadyIsAccepted
 ready_accepted hardware before id page (frame, rights, holds, finds) alone =
-    (frame, rights, holds, answered_by_frame (board_parts hardware) id page frame rights finds alone)
+    (frame, rights, holds, λ inside kind allowed. answered_by_frame (board_parts hardware) id page frame kind (finds kind allowed) alone inside)
+
+-- where such an access finds something else, no request is answered by the frame
+pub not_answered_by_frame : (parts : BoardParts) (id page frame : ℕ) (kind : AccessKind) (found : Found) → FindsInstead false parts id page frame kind found
+    → IfSome (context_found parts id) HasOneStage → AnswersAre (λ answered. answered ≢ Some frame) parts id page kind
+not_answered_by_frame parts id page frame kind found (by, isnt) alone access answer new of low at serves accepted =
+    let finds = subst (λ (k : AccessKind). RequestFinds parts id (access.address / 4096) k found) (sym of) (subst (λ (p : ℕ). RequestFinds parts id p kind found) (sym at) by) in
+    elim (agrees _ parts id access.address low access.kind found answer new finds alone serves) [
+      | inl same ↦ isnt (sym same ∙ accepted)
+      | inr (outside, own, none) ↦ (let gone : None ≡ Some frame = sym none ∙ accepted in let no : ⊥ = cc in no)
+    ]
 
 pub unready_not_accepted : UnreadyIsNotAccepted
-unready_not_accepted hardware before id page found (frame, rights, holds, (kind, allowed, (by, isnt))) alone = (
-  frame,
-  rights,
-  holds,
-  (
-    kind,
-    allowed,
-    λ access answer new of low at serves accepted.
-        let finds = subst (λ (k : AccessKind). RequestFinds (board_parts hardware) id (access.address / 4096) k found) (sym of)
-        (subst (λ (p : ℕ). RequestFinds (board_parts hardware) id p kind found) (sym at) by) in
-        elim (agrees _ (board_parts hardware) id access.address low access.kind found answer new finds alone serves) [
-          | inl same ↦ isnt (sym same ∙ accepted)
-          | inr (outside, own, none) ↦ (let gone : None ≡ Some frame = sym none ∙ accepted in let no : ⊥ = cc in no)
-        ],
-  ),
-)
+unready_not_accepted hardware before id page found (frame, rights, holds, (kind, allowed, instead)) alone =
+    (frame, rights, holds, (kind, allowed, not_answered_by_frame (board_parts hardware) id page frame kind found instead alone))

@@ -1,5 +1,5 @@
 -- What is found ready by cached pointers is what the IOMMU answers to a request that is walked ahead.
-use Rattle.std.proofs.Common.{◌≡◌, ◌≢◌, ◌∙◌, ◌/◌, ◌^◌, ◌<◌, ◌+◌, ◌*◌, ◌-◌, ◌⊎◌, inl, inr, ℕ, suc, Bool, true, false, List, Option, None, Some, option_map, Result, Ok, Err, if◌then◌else◌, ◌&&◌, nat_lt, refl, sym, ap, subst, arith}
+use Rattle.std.proofs.Common.{◌≡◌, ◌≢◌, ◌∙◌, ◌/◌, ◌^◌, ◌<◌, ◌+◌, ◌*◌, ◌-◌, ◌⊎◌, inl, inr, ℕ, suc, Bool, true, false, List, [], Option, None, Some, option_map, Result, Ok, Err, if◌then◌else◌, ◌&&◌, nat_lt, refl, sym, ap, subst, arith}
 use Rattle.std.proofs.lemmas.Bool.{leb-true, leb-false}
 use Rattle.std.proofs.lemmas.Option.{cond_some, none-some, same_Some}
 use Rattle.iom_base.specs.Rights.{allows}
@@ -16,30 +16,33 @@ use Rattle.iom_device_dir.specs.Contents.{Content}
 use Rattle.iom_device_dir.specs.Located.{located_by_mode}
 use Rattle.iom_device_dir.specs.Paths.{fits_directory}
 use Rattle.iom_device_dir.specs.declared.context.Context.{Context}
-use Rattle.iom_hardware_session.proofs.AcceptLemmas.{canonical as canonical_at, guest_physical, answered_by_frame}
-use Rattle.iom_hardware_session.proofs.ReadyPointedLemmas.{led_frame, one_start}
+use Rattle.iom_hardware_session.proofs.AcceptLemmas.{canonical as canonical_at, guest_physical, answered_by_frame, not_answered_by_frame}
+use Rattle.iom_hardware_session.proofs.ReadyPointedLemmas.{frame_from, leads_at_root, led_frame, not_nowhere, nothing_led, one_frame, one_start}
 use Rattle.iom_hardware_session.specs.Accepted.{frame_answered}
-use Rattle.iom_hardware_session.specs.AcceptedPointed.{AstrayIsNotAccepted, PointedReadyIsAccepted}
+use Rattle.iom_hardware_session.specs.AcceptedPointed.{AstrayIsNotAccepted, PointedReadyIsAccepted, UnreadyAheadIsNotAccepted}
 use Rattle.iom_hardware_session.specs.EventsPointed.{request_for}
 use Rattle.iom_hardware_session.specs.Found.{frame_found}
-use Rattle.iom_hardware_session.specs.Ready.{address_of}
-use Rattle.iom_hardware_session.specs.ReadyPointed.{FindsByPointer, LeadsToFrame, PointersLead, PointersLeadAstray}
+use Rattle.iom_hardware_session.specs.Ready.{address_of, FindsFrame, LedFinds, RequestFinds}
+use Rattle.iom_hardware_session.specs.ReadyPointed.{FindsAhead, LeadsToFrame, PointersLead, PointersLeadAstray, found_from}
 use Rattle.iom_hardware_session.specs.declared.answer.Found.{Found}
-use Rattle.iom_hardware_session.specs.declared.answer.Found.TheVariants.{Pointed}
 use Rattle.iom_hardware_session.specs.declared.answer.Wrong.TheVariants.{NotReady}
 use Rattle.iom_iommu.specs.Parts.{contexts_of, registers_of, translations_of}
 use Rattle.iom_iommu.specs.Requests.{ServesRequest}
 use Rattle.iom_iommu.specs.Service.{cached_for, found_context, LooksOrWalks, Serves, ServesBy, ServesIn, Translates, TranslatesIn}
 use Rattle.iom_iommu.specs.Stages.{space_through, ReachesThrough, StopsThrough}
+use Rattle.iom_pointed_board.proofs.WalkedLemmas.{one_walked}
 use Rattle.iom_pointed_board.specs.Roots.{cached_or, hand_in, root_by, root_of}
-use Rattle.iom_pointed_board.specs.Starts.{AtPointer, AtRoot, BeginsAt, IsStart, KeepsFound, PastPointer, Walks, WalksAhead}
+use Rattle.iom_pointed_board.specs.Starts.{AtPointer, AtRoot, BeginsAt, IsFoundAtRoot, IsFoundFromRoot, IsStart, KeepsFound, PastPointer, Walks, WalksAhead, at_root}
 use Rattle.iom_pointed_board.specs.declared.start.Start.{Start}
 use Rattle.iom_pointers.specs.Pointers.{HasOneOfEachKey}
+use Rattle.iom_pointers.specs.Walks.{LeadsTo}
+use Rattle.iom_pointers.specs.declared.features.Features.{Features}
 use Rattle.iom_pointers.specs.declared.pointer.Pointer.{Pointer}
 use Rattle.iom_registers.specs.Queues.{directory_root}
 use Rattle.iom_registers.specs.declared.directory.DirectoryMode.{DirectoryMode}
 use Rattle.iom_registers.specs.declared.directory.DirectoryMode.TheVariants.{Off, Bare, OneLevel, TwoLevels, ThreeLevels}
 use Rattle.iom_registers.specs.declared.registers.Registers.{Registers}
+use Rattle.iom_stepped_requests.specs.declared.request.Request.{Request}
 use Rattle.iom_stage_walk.specs.declared.walked.WalkFault.{WalkFault}
 use Rattle.iom_stepped_walk.specs.declared.hand.TableInHand.{TableInHand}
 use Rattle.iom_tlb.specs.Content.{Keeps, Translations}
@@ -181,48 +184,107 @@ module _ (parts between : BoardParts) (id address : ℕ) (kind : AccessKind) (ow
       (subst (λ (m : List (List ℕ)). Serves true m (registers_of between.iommu) (contexts_of between.iommu) id address kind (translations_of between.iommu) answer new) memory
       serves)))
 
-  goes : (pointers : List Pointer) (start : Start) → BeginsAt parts.memory pointers own root kind start → KeepsFrom start → GoesBy start
-  goes pointers start (AtPointer pointer translation deepest leads is) keeps =
+  by_root : (napot : Bool) (found : Option Translation) (start : Start) → IsFoundAtRoot napot parts.memory root kind found → start ≡ at_root own root found → KeepsFrom start
+      → GoesBy start
+  by_root false found start from is keeps =
+      let none = ap (λ (s : Start). s.found) is ∙ from in inl (none, subst (λ f. KeepsFound f start.space start.hand.page parts between) none keeps)
+  by_root true None start nowhere is keeps = inl (ap (λ (s : Start). s.found) is, subst KeepsFrom is keeps)
+  by_root true (Some translation) start leads is keeps =
       inr (translation, ap (λ (s : Start). s.found) is, by_cache translation leads.allowed (subst KeepsFrom is keeps))
-  goes pointers start (PastPointer pointer deepest nowhere is) keeps = inl (ap (λ (s : Start). s.found) is, subst KeepsFrom is keeps)
-  goes pointers start (AtRoot none is) keeps = inl (ap (λ (s : Start). s.found) is, subst KeepsFrom is keeps)
+
+  goes : (napot : Bool) (pointers : List Pointer) (start : Start) → BeginsAt napot parts.memory pointers own root kind start → KeepsFrom start → GoesBy start
+  goes napot pointers start (AtPointer pointer translation deepest leads is) keeps =
+      inr (translation, ap (λ (s : Start). s.found) is, by_cache translation leads.allowed (subst KeepsFrom is keeps))
+  goes napot pointers start (PastPointer pointer found deepest nowhere from is) keeps = by_root napot found start from is keeps
+  goes napot pointers start (AtRoot found none from is) keeps = by_root napot found start from is keeps
 
 -- THE ANSWER to a request that is walked ahead, at an address of the page
-module _ (parts between : BoardParts) (pointers between_pointers : List Pointer) (id page address : ℕ) (same : address / 4096 ≡ address_of page / 4096) (kind : AccessKind)
-    (answer : Result Translation WalkFault) (new : Translations)
+module _ (features : Features) (parts between : BoardParts) (pointers between_pointers : List Pointer) (id page address : ℕ)
+    (same : address / 4096 ≡ address_of page / 4096) (kind : AccessKind) (answer : Result Translation WalkFault) (new : Translations)
     (serves : Serves true between.memory (registers_of between.iommu) (contexts_of between.iommu) id address kind (translations_of between.iommu) answer new) where
   abbrev IsAhead : Type 0
-  IsAhead = WalksAhead parts pointers (request_for id address kind) between between_pointers
+  IsAhead = WalksAhead features parts pointers (request_for id address kind) between between_pointers
+
+  abbrev at_page : Request
+  at_page = request_for id (address_of page) kind
 
   abbrev led_to : Option Translation → Option ℕ
   led_to = option_map (λ (t : Translation). t.frame)
 
-  of_page : (start : Start) → IsStart parts pointers (request_for id address kind) (Some start) → IsStart parts pointers (request_for id (address_of page) kind) (Some start)
+  of_page : (start : Start) → IsStart features.napot parts pointers (request_for id address kind) (Some start) → IsStart features.napot parts pointers at_page (Some start)
   of_page start (own, root, walks, begins) = (own, root, walks_alike address (address_of page) same parts id kind own root walks, begins)
 
-  -- by the frame, where each walk from a pointer leads to it, and the board as it was answers by it
-  frame_ahead : (frame : ℕ) → LeadsToFrame parts pointers id page frame kind → (between ≡ parts → frame_answered answer ≡ Some frame) → IsAhead
+  -- no walk from the root leads anywhere that knows leaves of 64 KiB
+  abbrev IsLedNowhere : Type 0
+  IsLedNowhere = features.napot ≡ true → (translation : Translation) → IsFoundFromRoot parts at_page (Some translation) → ⊥
+
+  led_nowhere_of : (start : Start) (own : Space) (root : TableInHand) → Walks parts (request_for id address kind) own root
+      → BeginsAt features.napot parts.memory pointers own root kind start → start.found ≡ None → IsLedNowhere
+  led_nowhere_of start own root walks begins none knows translation (its, first, goes, leads) =
+      let (same_space, same_root) = one_walked parts at_page own its root first (walks_alike address (address_of page) same parts id kind own root walks) goes in
+      nothing_led parts.memory pointers own root kind start (subst (λ n. BeginsAt n parts.memory pointers own root kind start) knows begins) none translation
+      (subst (λ r. LeadsTo true parts.memory r kind translation) (sym same_root) leads)
+
+  -- by the frame, where each walk ahead that leads somewhere leads to it, and the board as it was answers by it where none does
+  frame_ahead : (frame : ℕ) → LeadsToFrame features.napot parts pointers id page frame kind → (IsLedNowhere → between ≡ parts → frame_answered answer ≡ Some frame) → IsAhead
       → frame_answered answer ≡ Some frame
-  frame_ahead frame leads stays (None, none, (same_parts, same_pointers)) = stays same_parts
+  frame_ahead frame leads stays (None, none, (same_parts, same_pointers)) =
+      stays (λ knows translation led. none led.0 led.1 (walks_alike (address_of page) address (sym same) parts id kind led.0 led.1 led.2)) same_parts
   frame_ahead frame leads stays (Some start, (own, root, walks, begins), (keeps, follows)) =
-      elim (goes parts between id address kind own root walks answer new serves pointers start begins keeps) [
-        | inl (none, same_parts) ↦ stays same_parts
+      elim (goes parts between id address kind own root walks answer new serves features.napot pointers start begins keeps) [
+        | inl (none, same_parts) ↦ stays (led_nowhere_of start own root walks begins none) same_parts
         | inr (translation, found, is) ↦ ap frame_answered is
-            ∙ leads (Pointed start.space translation.frame) (start, translation, of_page start (own, root, walks, begins), found, refl)
+            ∙ sym (frame_from start translation (found_from start translation) start.is_root refl refl)
+            ∙ leads (found_from start translation) (start, translation, of_page start (own, root, walks, begins), found, refl)
       ]
 
-  -- not by the frame, where a walk from a pointer leads elsewhere
-  not_ahead : HasOneOfEachKey pointers → (frame : ℕ) (found : Found) → FindsByPointer parts pointers id page kind found → frame_found found ≢ Some frame → IsAhead
+  -- not by the frame, where a walk ahead leads elsewhere
+  not_ahead : HasOneOfEachKey pointers → (frame : ℕ) (found : Found) → FindsAhead features.napot parts pointers id page kind found → frame_found found ≢ Some frame → IsAhead
       → frame_answered answer ≢ Some frame
   not_ahead each frame found (other, elsewhere, (own, root, walks, begins), leads, is) isnt (None, none, kept) accepted =
       none own root (walks_alike (address_of page) address (sym same) parts id kind own root walks)
   not_ahead each frame found (other, elsewhere, begun, leads, is) isnt (Some start, (own, root, walks, begins), (keeps, follows)) accepted =
       let that : led_frame start ≡ Some elsewhere.frame =
-      one_start parts pointers (request_for id (address_of page) kind) each start other (of_page start (own, root, walks, begins)) begun ∙ ap led_to leads in
-      elim (goes parts between id address kind own root walks answer new serves pointers start begins keeps) [
+      one_start features.napot parts pointers at_page each start other (of_page start (own, root, walks, begins)) begun ∙ ap led_to leads in
+      elim (goes parts between id address kind own root walks answer new serves features.napot pointers start begins keeps) [
         | inl (none, same_parts) ↦ none-some elsewhere.frame (sym (ap led_to none) ∙ that)
-        | inr (translation, led, gives) ↦ isnt (ap frame_found is ∙ sym that ∙ ap led_to led ∙ sym (ap frame_answered gives) ∙ accepted)
+        | inr (translation, led, gives) ↦
+            isnt (frame_from other elsewhere found other.is_root refl is ∙ sym that ∙ ap led_to led ∙ sym (ap frame_answered gives) ∙ accepted)
       ]
+
+  -- not by the frame, where what is found from the root is something else, and no pointer is cached
+  not_from_root : features.napot ≡ true → pointers ≡ [] → (frame : ℕ) (found : Found) (led : Option Translation) → IsFoundFromRoot parts at_page led
+      → LedFinds led (RequestFinds parts id page kind) found → frame_found found ≢ Some frame
+      → (RequestFinds parts id page kind found → between ≡ parts → frame_answered answer ≢ Some frame) → IsAhead → frame_answered answer ≢ Some frame
+  not_from_root knows bare frame found led from own isnt stays (None, none, (same_parts, same_pointers)) accepted = unwalked led from own
+    where
+      unwalked : (seen : Option Translation) → IsFoundFromRoot parts at_page seen → LedFinds seen (RequestFinds parts id page kind) found → ⊥
+      unwalked None nowhere own = stays own same_parts accepted
+      unwalked (Some translation) (its, first, walked, leads) own = none its first (walks_alike (address_of page) address (sym same) parts id kind its first walked)
+  not_from_root knows bare frame found led from own isnt stays (Some start, (space, root, walks, begins), (keeps, follows)) accepted =
+      elim (goes parts between id address kind space root walks answer new serves features.napot pointers start begins keeps) [
+        | inl (none, same_parts) ↦ by_none led from own none same_parts
+        | inr (translation, leads, gives) ↦ by_some led from own translation leads gives
+      ]
+    where
+      by_none : (seen : Option Translation) → IsFoundFromRoot parts at_page seen → LedFinds seen (RequestFinds parts id page kind) found → start.found ≡ None → between ≡ parts → ⊥
+      by_none None nowhere own none same_parts = stays own same_parts accepted
+      by_none (Some other) is own none same_parts = led_nowhere_of start space root walks begins none knows other is
+
+      root_leads : (translation : Translation) → start.found ≡ Some translation → LeadsTo true parts.memory root kind translation
+      root_leads translation leads = leads_at_root parts.memory space root kind start (subst (λ p. BeginsAt true parts.memory p space root kind start) bare
+          (subst (λ n. BeginsAt n parts.memory pointers space root kind start) knows begins)) translation leads
+
+      by_some : (seen : Option Translation) → IsFoundFromRoot parts at_page seen → LedFinds seen (RequestFinds parts id page kind) found → (translation : Translation)
+          → start.found ≡ Some translation → answer ≡ Ok translation → ⊥
+      by_some None nowhere own translation leads gives =
+          not_nowhere true parts.memory root kind translation (root_leads translation leads)
+          (nowhere space root (walks_alike address (address_of page) same parts id kind space root walks))
+      by_some (Some other) (its, first, walked, leads_there) own translation leads gives =
+          let (same_space, same_root) = one_walked parts at_page space its root first (walks_alike address (address_of page) same parts id kind space root walks) walked in
+          let one = one_frame true parts.memory root kind translation other (root_leads translation leads)
+          (subst (λ r. LeadsTo true parts.memory r kind other) (sym same_root) leads_there) in
+          isnt (ap frame_found own ∙ ap (λ (f : ℕ). Some f) (sym one) ∙ sym (ap frame_answered gives) ∙ accepted)
 
 same_page : (address page : ℕ) → address < 2 ^ 64 → address / 4096 ≡ page → address / 4096 ≡ address_of page / 4096
 same_page address page low at = omega (arith, low, at)
@@ -235,23 +297,31 @@ of_kind between id access kind answer new of serves =
     subst (λ (k : AccessKind). Serves true between.memory (registers_of between.iommu) (contexts_of between.iommu) id access.address k (translations_of between.iommu) answer new)
     of serves
 
+-- what is found by hardware's own walk, where none leads anywhere that knows leaves of 64 KiB
+by_own_walk : (napot : Bool) (parts : BoardParts) (id page frame : ℕ) (kind : AccessKind)
+    → (napot ≡ true → (translation : Translation) → IsFoundFromRoot parts (request_for id (address_of page) kind) (Some translation) → ⊥) → FindsFrame napot parts id page frame kind
+    → FindsFrame false parts id page frame kind
+by_own_walk false parts id page frame kind nowhere finds = finds
+by_own_walk true parts id page frame kind nowhere (found, (None, none, own), is) = (found, own, is)
+by_own_walk true parts id page frame kind nowhere (found, (Some translation, led, own), is) = absurd (nowhere refl translation led)
+
 pub pointed_ready_accepted : PointedReadyIsAccepted
-pointed_ready_accepted hardware pointers before id page beside (frame, rights, holds, finds) pointed alone = (
+pointed_ready_accepted hardware features pointers before id page beside (frame, rights, holds, finds) pointed alone = (
   frame,
   rights,
   holds,
   λ inside kind allowed access between between_pointers answer new of low at ahead serves.
       let parts = board_parts hardware.board in
       let leads = subst (λ b. PointersLead b parts id page frame kind) beside (pointed frame rights holds kind allowed) in
-      frame_ahead parts between pointers between_pointers id page access.address (same_page access.address page low at) kind answer new
+      frame_ahead features parts between pointers between_pointers id page access.address (same_page access.address page low at) kind answer new
       (of_kind between id access kind answer new of serves) frame leads
-      (λ same. answered_by_frame parts id page frame rights finds alone inside kind allowed access answer new of low at
-      (subst (λ (p : BoardParts). ServesRequest p.memory p.iommu id access answer new) same serves))
+      (λ nowhere same. answered_by_frame parts id page frame kind (by_own_walk features.napot parts id page frame kind nowhere (finds kind allowed)) alone inside access answer new of low
+      at (subst (λ (p : BoardParts). ServesRequest p.memory p.iommu id access answer new) same serves))
       ahead,
 )
 
 pub astray_not_accepted : AstrayIsNotAccepted
-astray_not_accepted hardware pointers before id page found beside each (frame, rights, holds, astray) =
+astray_not_accepted hardware features pointers before id page found beside each (frame, rights, holds, astray) =
     let parts = board_parts hardware.board in
     let (kind, allowed, (finds, isnt)) = subst (λ b. PointersLeadAstray b parts id page frame rights (NotReady found)) beside astray in (
       frame,
@@ -261,7 +331,25 @@ astray_not_accepted hardware pointers before id page found beside each (frame, r
         kind,
         allowed,
         λ access between between_pointers answer new of low at ahead serves.
-            not_ahead parts between pointers between_pointers id page access.address (same_page access.address page low at) kind answer new
+            not_ahead features parts between pointers between_pointers id page access.address (same_page access.address page low at) kind answer new
             (of_kind between id access kind answer new of serves) each frame found finds isnt ahead,
       ),
     )
+
+pub unready_ahead_not_accepted : UnreadyAheadIsNotAccepted
+unready_ahead_not_accepted hardware features before id page found knows (frame, rights, holds, (kind, allowed, ((led, from, own), isnt))) alone = (
+  frame,
+  rights,
+  holds,
+  (
+    kind,
+    allowed,
+    λ access between between_pointers answer new of low at ahead serves.
+        let parts = board_parts hardware in
+        not_from_root features parts between [] between_pointers id page access.address (same_page access.address page low at) kind answer new
+        (of_kind between id access kind answer new of serves) knows refl frame found led from own isnt
+        (λ finds same. not_answered_by_frame parts id page frame kind found (finds, isnt) alone access answer new of low at
+        (subst (λ (p : BoardParts). ServesRequest p.memory p.iommu id access answer new) same serves))
+        ahead,
+  ),
+)

@@ -164,11 +164,11 @@ module _ (trusted : List ℕ) (old new : ShownHardware) where
     | inl is ↦ inl (is.0, same ∙ ap (λ (r : List WalkRow). UnderWay r) is.1)
     | inr does ↦ inr (new_rows, same, does)
   ]
-  by_pace (Pointers pointers) said answer soft all (new_pointers, same, (between, between_pointers, ahead, disks, blocks, effect, left)) =
+  by_pace (Pointers features pointers) said answer soft all (new_pointers, same, (between, between_pointers, ahead, disks, blocks, effect, left)) =
       inr (
         new_pointers,
         same,
-        pointed_by trusted said answer old.board between.board new.board pointers between_pointers new_pointers ahead left
+        pointed_by features trusted said answer old.board between.board new.board pointers between_pointers new_pointers ahead left
             (plainly between (whole_effect trusted (bare between) (bare new) said answer soft effect)),
       )
     where
@@ -187,7 +187,7 @@ module _ (trusted : List ℕ) (old new : ShownHardware) where
 
   load_by_pace : (beside : Beside) (device : ℕ) (answer : Answer) → old.beside ≡ beside → LoadsBy beside device answer old new → StaysOrDoesBy beside
   load_by_pace Nothing device answer is (told, same) = inl (same.parts, same.beside ∙ is)
-  load_by_pace (Pointers pointers) device answer is (told, same) = inl (same.parts, same.beside ∙ is)
+  load_by_pace (Pointers features pointers) device answer is (told, same) = inl (same.parts, same.beside ∙ is)
   load_by_pace (UnderWay rows) device answer is (new_rows, same, effect) = by (walk_load_in answer) effect
     where
       by : (load : Option (Result Load Refusal)) → CallBeside (option_map (stepped.Load device) load) old rows new new_rows → StaysOrDoesBy (UnderWay rows)

@@ -15,6 +15,7 @@ use Rattle.iom_hardware_ways.specs.Laws.{GoodClaimsHold, FreeStaysFree}
 use Rattle.iom_inflight.specs.declared.made.MadeAt.{MadeAt}
 use Rattle.iom_ledger.specs.History.{History, May}
 use Rattle.iom_pointer_ways.specs.Laws.{PointedFreeStaysFree, PointedGoodClaimsHold, MakesAfter as MakesByPointers}
+use Rattle.iom_pointers.specs.declared.features.Features.{Features}
 use Rattle.iom_pointers.specs.declared.pointer.Pointer.{Pointer}
 use Rattle.iom_reach.specs.Laws.{IsOutOfReach}
 use Rattle.iom_reach.specs.Safe.{IsSafe, AreTimely}
@@ -42,9 +43,9 @@ came_after covers trusted parts blocks rows id made sound (calls, (events, betwe
 }
 
 -- the same where pointers to tables are cached
-came_by : (trusted : ℕ → Bool) (parts : BoardParts) (pointers : List Pointer) (id : ℕ) (made : MadeAt) → Comes trusted parts (Pointers pointers) id made
-    → MakesByPointers trusted parts pointers id made
-came_by trusted parts pointers id made (calls, (events, between, between_pointers, new, turns, commits)) =
+came_by : (features : Features) (trusted : ℕ → Bool) (parts : BoardParts) (pointers : List Pointer) (id : ℕ) (made : MadeAt) → Comes trusted parts (Pointers features pointers) id made
+    → MakesByPointers features.napot trusted parts pointers id made
+came_by features trusted parts pointers id made (calls, (events, between, between_pointers, new, turns, commits)) =
     record { calls = calls; events = events; between = between; between_pointers = between_pointers; turns = turns; new = new; makes = commits }
 
 module _ (holds : GoodClaimsHold) (stepped_holds : SteppedGoodClaimsHold) (pointed_holds : PointedGoodClaimsHold) (free : FreeStaysFree) (stepped_free : SteppedFreeStaysFree)
@@ -57,8 +58,8 @@ module _ (holds : GoodClaimsHold) (stepped_holds : SteppedGoodClaimsHold) (point
       holds trusted claimed calls events id made parts between new safe timely ways turns makes
   allowed trusted claimed parts blocks (UnderWay rows) id made sound safe timely ways comes =
       stepped_holds trusted claimed (stepped_scene trusted parts rows) id made safe timely ways (came_after covers trusted parts blocks rows id made sound comes)
-  allowed trusted claimed parts blocks (Pointers pointers) id made sound safe timely ways comes =
-      pointed_holds trusted claimed parts pointers id made safe timely ways (came_by trusted parts pointers id made comes)
+  allowed trusted claimed parts blocks (Pointers features pointers) id made sound safe timely ways comes =
+      pointed_holds features.napot trusted claimed parts pointers id made safe timely ways (came_by features trusted parts pointers id made comes)
 
   -- and nothing comes where there is no way
   untouched : (trusted : ℕ → Bool) (parts : BoardParts) (blocks : List ShownBlock) (beside : Beside) (id : ℕ) (made : MadeAt) → WalksAreSound parts blocks beside
@@ -67,8 +68,8 @@ module _ (holds : GoodClaimsHold) (stepped_holds : SteppedGoodClaimsHold) (point
       free trusted calls events id made parts between new safe timely reach turns makes
   untouched trusted parts blocks (UnderWay rows) id made sound safe timely reach comes =
       stepped_free trusted (stepped_scene trusted parts rows) id made safe timely reach (came_after covers trusted parts blocks rows id made sound comes)
-  untouched trusted parts blocks (Pointers pointers) id made sound safe timely reach comes =
-      pointed_free trusted parts pointers id made safe timely reach (came_by trusted parts pointers id made comes)
+  untouched trusted parts blocks (Pointers features pointers) id made sound safe timely reach comes =
+      pointed_free features.napot trusted parts pointers id made safe timely reach (came_by features trusted parts pointers id made comes)
 
   pub done_stays : DoneStaysDone
   done_stays session before number grant made ((safe, timely), each) opened same comes =

@@ -37,7 +37,7 @@ all_there hardware invariants = λ id able none. there_able disk_state hardware 
 -- so a session's calls find what they ask for
 sound_by : (parts : BoardParts) (blocks : List ShownBlock) (beside : Beside) (events : ℕ) → BoardInvariant parts events → WalksAreSound parts blocks beside → InvariantBy parts beside events
 sound_by parts blocks Nothing events board sound = board
-sound_by parts blocks (Pointers pointers) events board sound = board
+sound_by parts blocks (Pointers features pointers) events board sound = board
 sound_by parts blocks (UnderWay rows) events board sound = record { board = board; beside = sound.beside.board; walks = sound.walks }
 
 pub invariant_by : (session : Session) → InvariantBy (board_parts session.hardware.board) session.beside session.hardware.board.events

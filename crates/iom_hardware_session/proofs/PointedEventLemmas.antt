@@ -17,25 +17,26 @@ use Rattle.iom_machine.specs.declared.event.Event.{Event}
 use Rattle.iom_pointed_board.specs.Roots.{context_found}
 use Rattle.iom_pointed_board.specs.Starts.{WalksAhead}
 use Rattle.iom_pointers.specs.Pointers.{is_covered}
+use Rattle.iom_pointers.specs.declared.features.Features.{Features}
 use Rattle.iom_pointers.specs.declared.pointer.Pointer.{Pointer}
 use Rattle.iom_stepped_requests.specs.declared.request.Request.{Request}
 use Rattle.iom_stepped_ways.specs.Calls.{WritesUntrusted}
 use Rattle.iom_way_survey.specs.Surveys.{is_id_among}
 
 -- a request of a device that is plugged in is walked ahead, or all stays
-abbrev pub GoesAheadAt : BoardParts → List Pointer → BoardParts → List Pointer → Type 0
-GoesAheadAt old pointers between between_pointers =
+abbrev pub GoesAheadAt : Features → BoardParts → List Pointer → BoardParts → List Pointer → Type 0
+GoesAheadAt features old pointers between between_pointers =
     ((between ≡ old) × (between_pointers ≡ pointers))
-    ⊎ ((request : Request) × (kind : DeviceKind) × (kind_in old.devices request.device ≡ Some kind) × WalksAhead old pointers request between between_pointers)
+    ⊎ ((request : Request) × (kind : DeviceKind) × (kind_in old.devices request.device ≡ Some kind) × WalksAhead features old pointers request between between_pointers)
 
 -- the board stays, or does something by a call, and no device that is trusted writes
 abbrev pub DoesPlainly : (ℕ → Bool) → BoardParts → BoardParts → Type 0
 DoesPlainly trusted between new = (new ≡ between) ⊎ ((done : HardwareCall) × CallEffect done between new × WritesUntrusted trusted done)
 
 -- one, and then the other; pointers may be forgotten
-abbrev pub DoesByPointers : (ℕ → Bool) → BoardParts → List Pointer → BoardParts → List Pointer → Type 0
-DoesByPointers trusted old pointers new new_pointers =
-    (between : BoardParts) × (between_pointers : List Pointer) × GoesAheadAt old pointers between between_pointers × DoesPlainly trusted between new
+abbrev pub DoesByPointers : Features → (ℕ → Bool) → BoardParts → List Pointer → BoardParts → List Pointer → Type 0
+DoesByPointers features trusted old pointers new new_pointers =
+    (between : BoardParts) × (between_pointers : List Pointer) × GoesAheadAt features old pointers between between_pointers × DoesPlainly trusted between new
     × ((pointer : Pointer) → Contains new_pointers pointer → Contains between_pointers pointer)
 
 -- WHAT A FETCH LEAVES was there
@@ -47,10 +48,10 @@ left_among (Some fetched.Empty) pointers pointer there = there
 left_among (Some fetched.Stopped) pointers pointer there = there
 
 -- AN EVENT, by what is done at the board
-pub pointed_by : (trusted : List ℕ) (said : Event) (answer : Answer) (old between new : Board) (pointers between_pointers new_pointers : List Pointer)
-    → GoesAhead said old pointers between between_pointers → new_pointers ≡ left_by (fetch_in answer) between_pointers
-    → DoesPlainly (is_id_among trusted) (board_parts between) (board_parts new) → DoesByPointers (is_id_among trusted) (board_parts old) pointers (board_parts new) new_pointers
-pointed_by trusted said answer old between new pointers between_pointers new_pointers goes left does = (
+pub pointed_by : (features : Features) (trusted : List ℕ) (said : Event) (answer : Answer) (old between new : Board) (pointers between_pointers new_pointers : List Pointer)
+    → GoesAhead features said old pointers between between_pointers → new_pointers ≡ left_by (fetch_in answer) between_pointers
+    → DoesPlainly (is_id_among trusted) (board_parts between) (board_parts new) → DoesByPointers features (is_id_among trusted) (board_parts old) pointers (board_parts new) new_pointers
+pointed_by features trusted said answer old between new pointers between_pointers new_pointers goes left does = (
   board_parts between,
   between_pointers,
   ahead goes,
@@ -58,7 +59,7 @@ pointed_by trusted said answer old between new pointers between_pointers new_poi
   (λ pointer there. left_among (fetch_in answer) between_pointers pointer (subst (λ (own : List Pointer). Contains own pointer) left there)),
 )
   where
-    ahead : GoesAhead said old pointers between between_pointers → GoesAheadAt (board_parts old) pointers (board_parts between) between_pointers
+    ahead : GoesAhead features said old pointers between between_pointers → GoesAheadAt features (board_parts old) pointers (board_parts between) between_pointers
     ahead (inl (request, (kind, plugged), asks, walks)) = inr (request, kind, plugged, walks)
     ahead (inr (none, same, stays)) = inl (same, stays)
 

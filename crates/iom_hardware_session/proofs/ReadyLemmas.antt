@@ -1,9 +1,14 @@
 -- What a request finds by a walk.
-use Rattle.std.proofs.Common.{◌≡◌, ◌↔◌, ℕ, List, Result, Ok, Err, refl, subst}
+use Rattle.std.proofs.Common.{◌≡◌, ◌↔◌, ℕ, Bool, true, List, Option, Result, Ok, Err, refl, sym, subst}
 use Rattle.iom_base.specs.declared.access.AccessKind.{AccessKind}
 use Rattle.iom_base.specs.declared.access.AccessKind.TheVariants.{Read, Write}
-use Rattle.iom_hardware_session.specs.Ready.{EndsSo, WalkFinds, found_by_walk}
+use Rattle.iom_hardware_session.specs.Ready.{address_of, EndsSo, FindsBy, LedFinds, RequestFinds, WalkFinds, found_by_walk}
 use Rattle.iom_hardware_session.specs.declared.answer.Found.{Found}
+use Rattle.iom_board.specs.BoardParts.{BoardParts}
+use Rattle.iom_hardware_session.specs.EventsPointed.{request_for}
+use Rattle.iom_pointed_board.specs.Starts.{IsFoundFromRoot}
+use Rattle.iom_stepped_requests.specs.declared.request.Request.{Request}
+use Rattle.iom_tlb.specs.declared.trans_cache.Translation.{Translation}
 use Rattle.iom_stage_walk.specs.Second.{ReachesSecond, StopsSecond}
 use Rattle.iom_stage_walk.specs.declared.walked.Walked.{Walked}
 use Rattle.iom_stage_walk.specs.declared.walked.WalkFault.{WalkFault}
@@ -26,6 +31,14 @@ second_finds memory levels root number address at kind ended found rooted placed
       (ends_so (ReachesSecond levels memory number at kind) (StopsSecond levels memory number at kind) ended reached stopped)),
   is,
 )
+
+-- WHAT A REQUEST FINDS where walks know leaves of 64 KiB: by what its walk from the root leads to
+pub finds_led : (napot : Bool) (parts : BoardParts) (id page : ℕ) (kind : AccessKind) (request : Request) (led seen : Option Translation) (found : Found) → napot ≡ true
+    → request ≡ request_for id (address_of page) kind → led ≡ seen → IsFoundFromRoot parts request led → LedFinds seen (RequestFinds parts id page kind) found
+    → FindsBy napot parts id page kind found
+finds_led napot parts id page kind request led seen found knows asks same from finds =
+    subst (λ n. FindsBy n parts id page kind found) (sym knows)
+    (seen, subst (λ (l : Option Translation). IsFoundFromRoot parts (request_for id (address_of page) kind) l) same (subst (λ r. IsFoundFromRoot parts r led) asks from), finds)
 
 -- what is so of reads and of writes
 pub of_both_kinds : (Is : AccessKind → Type 0) → Is Read → Is Write → (kind : AccessKind) → Is kind

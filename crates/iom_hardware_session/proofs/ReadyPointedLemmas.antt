@@ -1,22 +1,21 @@
 -- What a walk from a cached pointer finds is one: of each key one pointer is cached, and a walk ends at one leaf.
-use Rattle.std.proofs.Common.{◌≡◌, ◌∙◌, ◌⊎◌, inl, inr, ℕ, ◌/◌, ◌==◌, ◌≤◌, false, List, [], ◌∷◌, ◌+◌, length, slice_get, Option, None, Some, option_map, IfNone, refl, sym, ap, subst, arith}
+use Rattle.std.proofs.Common.{◌≡◌, ◌∙◌, ◌⊎◌, inl, inr, ℕ, ◌/◌, ◌==◌, ◌≤◌, ◌≢◌, Bool, true, false, List, [], ◌∷◌, ◌+◌, length, slice_get, Option, None, Some, option_map, IfNone, if◌then◌else◌, refl, sym, ap, subst, arith}
 use Rattle.std.proofs.lemmas.Bool.{eqb-true, false≢true}
 use Rattle.iom_base.specs.Rights.{allows}
 use Rattle.iom_base.specs.declared.access.AccessKind.{AccessKind}
 use Rattle.iom_board.specs.BoardParts.{BoardParts}
-use Rattle.iom_device_dir.specs.declared.context.Context.{Context}
 use Rattle.iom_hardware_session.proofs.SameLemmas.{both, one_space}
 use Rattle.iom_hardware_session.specs.EventsPointed.{request_for}
 use Rattle.iom_hardware_session.specs.Found.{frame_found}
 use Rattle.iom_hardware_session.specs.Ready.{address_of}
-use Rattle.iom_hardware_session.specs.ReadyPointed.{FindsByPointer, LeadsToFrame}
+use Rattle.iom_hardware_session.specs.ReadyPointed.{FindsAhead, LeadsToFrame, found_from}
 use Rattle.iom_hardware_session.specs.declared.answer.Found.{Found}
-use Rattle.iom_hardware_session.specs.declared.answer.Found.TheVariants.{Pointed}
-use Rattle.iom_hardware_ways.specs.Formats.{entry_format}
+use Rattle.iom_hardware_session.specs.declared.answer.Found.TheVariants.{Pointed, Walk}
+use Rattle.iom_hardware_ways.proofs.ListLemmas.{in_none}
+use Rattle.iom_hardware_ways.specs.Formats.{format_of}
 use Rattle.iom_hardware_ways.specs.Scenes.{mapping_of}
-use Rattle.iom_iommu.specs.Stages.{space_through}
-use Rattle.iom_pointed_board.specs.Roots.{root_in}
-use Rattle.iom_pointed_board.specs.Starts.{AtPointer, AtRoot, BeginsAt, IsStart, PastPointer}
+use Rattle.iom_pointed_board.proofs.WalkedLemmas.{one_walked}
+use Rattle.iom_pointed_board.specs.Starts.{AtPointer, AtRoot, BeginsAt, IsFoundAtRoot, IsStart, PastPointer, Walks}
 use Rattle.iom_pointed_board.specs.declared.start.Start.{Start}
 use Rattle.iom_pointers.specs.Pointers.{HasNoneFor, HasOneOfEachKey, IsDeepest, hand_at, pages_of}
 use Rattle.iom_pointers.specs.Walks.{LeadsNowhere, LeadsTo, steps_in}
@@ -54,12 +53,12 @@ one_end format memory table (step ∷ steps) one other a b =
     goes_alike (format (memory (table + step.frame)) step.place steps) (λ next. Ends format memory next steps one) (λ next. Ends format memory next steps other) one other
     (λ next. one_end format memory next steps one other) a b
 
-module _ (memory : List (List ℕ)) (hand : TableInHand) (kind : AccessKind) where
-  one_frame : (one other : Translation) → LeadsTo memory hand kind one → LeadsTo memory hand kind other → one.frame ≡ other.frame
+module _ (napot : Bool) (memory : List (List ℕ)) (hand : TableInHand) (kind : AccessKind) where
+  pub one_frame : (one other : Translation) → LeadsTo napot memory hand kind one → LeadsTo napot memory hand kind other → one.frame ≡ other.frame
   one_frame one other a b =
-      ap (λ (m : Mapping). m.frame) (one_end entry_format (slice_get memory) hand.table.number (steps_in hand) (mapping_of one) (mapping_of other) a.ends b.ends)
+      ap (λ (m : Mapping). m.frame) (one_end (format_of napot) (slice_get memory) hand.table.number (steps_in hand) (mapping_of one) (mapping_of other) a.ends b.ends)
 
-  not_nowhere : (one : Translation) → LeadsTo memory hand kind one → LeadsNowhere memory hand kind → ⊥
+  pub not_nowhere : (one : Translation) → LeadsTo napot memory hand kind one → LeadsNowhere napot memory hand kind → ⊥
   not_nowhere one leads nowhere = by (nowhere (mapping_of one) leads.ends)
     where
       by : (allows one.rights kind ≡ false) ⊎ (length memory ≤ one.frame) → ⊥
@@ -84,80 +83,112 @@ module _ (pointers : List Pointer) (each : HasOneOfEachKey pointers) (own : Spac
   not_none : (one : Pointer) → IsDeepest pointers own page one → HasNoneFor pointers own page → ⊥
   not_none one is none = false≢true (sym (none one is.among) ∙ is.own)
 
-module _ (memory : List (List ℕ)) (pointers : List Pointer) (each : HasOneOfEachKey pointers) (own : Space) (root : TableInHand) (kind : AccessKind) where
-  frame_of : (start : Start) (hand : TableInHand) (found : Option Translation) → start ≡ record { space = own; hand = hand; found = found }
-      → led_frame start ≡ option_map (λ (t : Translation). t.frame) found
-  frame_of start hand found is = ap led_frame is
+module _ (napot : Bool) (memory : List (List ℕ)) (pointers : List Pointer) (each : HasOneOfEachKey pointers) (own : Space) (root : TableInHand) (kind : AccessKind) where
+  abbrev led_to : Option Translation → Option ℕ
+  led_to = option_map (λ (t : Translation). t.frame)
 
-  led_there : (pointer pointer' : Pointer) (one other : Translation) → pointer ≡ pointer' → LeadsTo memory (hand_at pointer root.page) kind one
-      → LeadsTo memory (hand_at pointer' root.page) kind other → one.frame ≡ other.frame
+  -- from the root one is found, or none
+  one_from_root : (own_napot : Bool) (one other : Option Translation) → IsFoundAtRoot own_napot memory root kind one → IsFoundAtRoot own_napot memory root kind other
+      → led_to one ≡ led_to other
+  one_from_root false one other a b = ap led_to (a ∙ sym b)
+  one_from_root true None None a b = refl
+  one_from_root true None (Some other) a b = absurd (not_nowhere true memory root kind other b a)
+  one_from_root true (Some one) None a b = absurd (not_nowhere true memory root kind one a b)
+  one_from_root true (Some one) (Some other) a b = ap (λ (f : ℕ). Some f) (one_frame true memory root kind one other a b)
+
+  led_there : (pointer pointer' : Pointer) (one other : Translation) → pointer ≡ pointer' → LeadsTo napot memory (hand_at pointer root.page) kind one
+      → LeadsTo napot memory (hand_at pointer' root.page) kind other → one.frame ≡ other.frame
   led_there pointer pointer' one other same a b =
-      one_frame memory (hand_at pointer root.page) kind one other a (subst (λ p. LeadsTo memory (hand_at p root.page) kind other) (sym same) b)
+      one_frame napot memory (hand_at pointer root.page) kind one other a (subst (λ p. LeadsTo napot memory (hand_at p root.page) kind other) (sym same) b)
 
-  led_or_not : (pointer pointer' : Pointer) (one : Translation) → pointer ≡ pointer' → LeadsTo memory (hand_at pointer root.page) kind one
-      → LeadsNowhere memory (hand_at pointer' root.page) kind → ⊥
+  led_or_not : (pointer pointer' : Pointer) (one : Translation) → pointer ≡ pointer' → LeadsTo napot memory (hand_at pointer root.page) kind one
+      → LeadsNowhere napot memory (hand_at pointer' root.page) kind → ⊥
   led_or_not pointer pointer' one same a b =
-      not_nowhere memory (hand_at pointer root.page) kind one a (subst (λ p. LeadsNowhere memory (hand_at p root.page) kind) (sym same) b)
+      not_nowhere napot memory (hand_at pointer root.page) kind one a (subst (λ p. LeadsNowhere napot memory (hand_at p root.page) kind) (sym same) b)
 
-  one_beginning : (one other : Start) → BeginsAt memory pointers own root kind one → BeginsAt memory pointers own root kind other → led_frame one ≡ led_frame other
+  one_beginning : (one other : Start) → BeginsAt napot memory pointers own root kind one → BeginsAt napot memory pointers own root kind other
+      → led_frame one ≡ led_frame other
   one_beginning one other (AtPointer p t deepest leads is) (AtPointer q u lowest goes at) =
-      frame_of one (hand_at p root.page) (Some t) is ∙ ap (λ (f : ℕ). Some f) (led_there p q t u (one_deepest pointers each own root.page p q deepest lowest) leads goes)
-      ∙ sym (frame_of other (hand_at q root.page) (Some u) at)
-  one_beginning one other (AtPointer p t deepest leads is) (PastPointer q lowest nowhere at) =
+      ap led_frame is ∙ ap (λ (f : ℕ). Some f) (led_there p q t u (one_deepest pointers each own root.page p q deepest lowest) leads goes) ∙ sym (ap led_frame at)
+  one_beginning one other (AtPointer p t deepest leads is) (PastPointer q found lowest nowhere from at) =
       absurd (led_or_not p q t (one_deepest pointers each own root.page p q deepest lowest) leads nowhere)
-  one_beginning one other (AtPointer p t deepest leads is) (AtRoot none at) = absurd (not_none pointers each own root.page p deepest none)
-  one_beginning one other (PastPointer p deepest nowhere is) (AtPointer q u lowest goes at) =
+  one_beginning one other (AtPointer p t deepest leads is) (AtRoot found none from at) = absurd (not_none pointers each own root.page p deepest none)
+  one_beginning one other (PastPointer p found deepest nowhere from is) (AtPointer q u lowest goes at) =
       absurd (led_or_not q p u (one_deepest pointers each own root.page q p lowest deepest) goes nowhere)
-  one_beginning one other (PastPointer p deepest nowhere is) (PastPointer q lowest never at) = frame_of one root None is ∙ sym (frame_of other root None at)
-  one_beginning one other (PastPointer p deepest nowhere is) (AtRoot none at) = frame_of one root None is ∙ sym (frame_of other root None at)
-  one_beginning one other (AtRoot none is) (AtPointer q u lowest goes at) = absurd (not_none pointers each own root.page q lowest none)
-  one_beginning one other (AtRoot none is) (PastPointer q lowest never at) = frame_of one root None is ∙ sym (frame_of other root None at)
-  one_beginning one other (AtRoot none is) (AtRoot nor at) = frame_of one root None is ∙ sym (frame_of other root None at)
+  one_beginning one other (PastPointer p found deepest nowhere from is) (PastPointer q led lowest never out at) =
+      ap led_frame is ∙ one_from_root napot found led from out ∙ sym (ap led_frame at)
+  one_beginning one other (PastPointer p found deepest nowhere from is) (AtRoot led none out at) =
+      ap led_frame is ∙ one_from_root napot found led from out ∙ sym (ap led_frame at)
+  one_beginning one other (AtRoot found none from is) (AtPointer q u lowest goes at) = absurd (not_none pointers each own root.page q lowest none)
+  one_beginning one other (AtRoot found none from is) (PastPointer q led lowest never out at) =
+      ap led_frame is ∙ one_from_root napot found led from out ∙ sym (ap led_frame at)
+  one_beginning one other (AtRoot found none from is) (AtRoot led nor out at) = ap led_frame is ∙ one_from_root napot found led from out ∙ sym (ap led_frame at)
 
--- the tables of a request are those of its one context
-pub one_start : (parts : BoardParts) (pointers : List Pointer) (request : Request) → HasOneOfEachKey pointers → (one other : Start)
-    → IsStart parts pointers request (Some one) → IsStart parts pointers request (Some other) → led_frame one ≡ led_frame other
-one_start parts pointers request each one other (own, root, walks, begins) (its, first, goes, at) =
-    one_beginning parts.memory pointers each own root request.asked.kind one other begins
-    (subst (λ (r : TableInHand). BeginsAt parts.memory pointers own r request.asked.kind other) (sym same_root)
-    (subst (λ (s : Space). BeginsAt parts.memory pointers s first request.asked.kind other) (sym same_space) at))
-  where
-    same : walks.context ≡ goes.context
-    same = some_is walks.context goes.context (sym walks.found ∙ goes.found)
+pub one_start : (napot : Bool) (parts : BoardParts) (pointers : List Pointer) (request : Request) → HasOneOfEachKey pointers → (one other : Start)
+    → IsStart napot parts pointers request (Some one) → IsStart napot parts pointers request (Some other) → led_frame one ≡ led_frame other
+one_start napot parts pointers request each one other (own, root, walks, begins) (its, first, goes, at) =
+    let (same_space, same_root) = one_walked parts request own its root first walks goes in
+    one_beginning napot parts.memory pointers each own root request.asked.kind one other begins
+    (subst (λ (r : TableInHand). BeginsAt napot parts.memory pointers own r request.asked.kind other) (sym same_root)
+    (subst (λ (s : Space). BeginsAt napot parts.memory pointers s first request.asked.kind other) (sym same_space) at))
 
-    same_space : own ≡ its
-    same_space = some_is own its (sym walks.space ∙ ap (λ (c : Context). space_through c.first_stage c.second_stage c) same ∙ goes.space)
+-- where it finds nothing ahead, its walk from the root leads nowhere, if that knows leaves of 64 KiB
+pub nothing_led : (memory : List (List ℕ)) (pointers : List Pointer) (own : Space) (root : TableInHand) (kind : AccessKind) (start : Start)
+    → BeginsAt true memory pointers own root kind start → start.found ≡ None → (translation : Translation) → LeadsTo true memory root kind translation → ⊥
+nothing_led memory pointers own root kind start (AtPointer p t deepest leads is) none translation led =
+    none_some t (sym none ∙ ap (λ (s : Start). s.found) is)
+nothing_led memory pointers own root kind start (PastPointer p found deepest nowhere from is) none translation led =
+    not_nowhere true memory root kind translation led (subst (IsFoundAtRoot true memory root kind) (sym (ap (λ (s : Start). s.found) is) ∙ none) from)
+nothing_led memory pointers own root kind start (AtRoot found nor from is) none translation led =
+    not_nowhere true memory root kind translation led (subst (IsFoundAtRoot true memory root kind) (sym (ap (λ (s : Start). s.found) is) ∙ none) from)
 
-    same_root : root ≡ first
-    same_root = some_is root first (sym walks.root_is ∙ ap (λ (c : Context). root_in c request.asked.address) same ∙ goes.root_is)
+-- what a walk finds that led to a translation is its frame
+pub frame_from : (its : Start) (translation : Translation) (other : Found) (root : Bool) → its.is_root ≡ root → other ≡ found_from its translation
+    → frame_found other ≡ Some translation.frame
+frame_from its translation other true at is = ap frame_found (is ∙ ap (λ b. if b then Walk translation.frame else Pointed its.space translation.frame) at)
+frame_from its translation other false at is = ap frame_found (is ∙ ap (λ b. if b then Walk translation.frame else Pointed its.space translation.frame) at)
 
--- WHAT THE WALK FINDS, of a request at an address that is the page's
-module _ (parts : BoardParts) (pointers : List Pointer) (each : HasOneOfEachKey pointers) (id page address : ℕ) (kind : AccessKind) (placed : address ≡ address_of page) where
+-- what it finds ahead where no pointer is cached, the walk from the root leads to
+pub leads_at_root : (memory : List (List ℕ)) (own : Space) (root : TableInHand) (kind : AccessKind) (start : Start) → BeginsAt true memory [] own root kind start
+    → (translation : Translation) → start.found ≡ Some translation → LeadsTo true memory root kind translation
+leads_at_root memory own root kind start (AtPointer p t deepest leads is) translation found = absurd (in_none p deepest.among)
+leads_at_root memory own root kind start (PastPointer p led deepest nowhere from is) translation found = absurd (in_none p deepest.among)
+leads_at_root memory own root kind start (AtRoot led none from is) translation found =
+    subst (IsFoundAtRoot true memory root kind) (sym (ap (λ (s : Start). s.found) is) ∙ found) from
+
+-- WHAT THE WALK FINDS, of a request at the page
+module _ (napot : Bool) (parts : BoardParts) (pointers : List Pointer) (each : HasOneOfEachKey pointers) (id page : ℕ) (kind : AccessKind) where
   -- where it walks no tables
-  pub led_nowhere : (start : Option Start) → IsStart parts pointers (request_for id address kind) start → start ≡ None → (frame : ℕ)
-      → LeadsToFrame parts pointers id page frame kind
+  pub led_nowhere : (start : Option Start) → IsStart napot parts pointers (request_for id (address_of page) kind) start → start ≡ None → (frame : ℕ)
+      → LeadsToFrame napot parts pointers id page frame kind
   led_nowhere start is none frame found (other, translation, (its, first, goes, at), leads, found_is) =
-      absurd (subst (λ a. IsStart parts pointers (request_for id a kind) None) placed (subst (IsStart parts pointers (request_for id address kind)) none is) its first goes)
+      absurd (subst (IsStart napot parts pointers (request_for id (address_of page) kind)) none is its first goes)
 
-  module _ (found : Option Start) (is : IsStart parts pointers (request_for id address kind) found) (start : Start) (walks : found ≡ Some start) where
-    begun : IsStart parts pointers (request_for id (address_of page) kind) (Some start)
-    begun = subst (λ a. IsStart parts pointers (request_for id a kind) (Some start)) placed (subst (IsStart parts pointers (request_for id address kind)) walks is)
+  module _ (found : Option Start) (is : IsStart napot parts pointers (request_for id (address_of page) kind) found) (start : Start) (walks : found ≡ Some start) where
+    begun : IsStart napot parts pointers (request_for id (address_of page) kind) (Some start)
+    begun = subst (IsStart napot parts pointers (request_for id (address_of page) kind)) walks is
 
-    led : (other : Found) → FindsByPointer parts pointers id page kind other → frame_found other ≡ led_frame start
+    led : (other : Found) → FindsAhead napot parts pointers id page kind other → frame_found other ≡ led_frame start
     led other (its, translation, begins, leads, found_is) =
-        ap frame_found found_is ∙ ap (option_map (λ (t : Translation). t.frame)) (sym leads)
-        ∙ one_start parts pointers (request_for id (address_of page) kind) each its start begins begun
+        frame_from its translation other its.is_root refl found_is ∙ ap (option_map (λ (t : Translation). t.frame)) (sym leads)
+        ∙ one_start napot parts pointers (request_for id (address_of page) kind) each its start begins begun
 
-    -- where it begins at the root
-    pub led_by_root : start.found ≡ None → (frame : ℕ) → LeadsToFrame parts pointers id page frame kind
+    -- where it finds nothing so
+    pub led_by_root : start.found ≡ None → (frame : ℕ) → LeadsToFrame napot parts pointers id page frame kind
     led_by_root none frame other finds = absurd (none_some finds.1.frame
-        (ap (option_map (λ (t : Translation). t.frame)) (sym none) ∙ sym (led other finds) ∙ ap frame_found finds.4))
+        (ap (option_map (λ (t : Translation). t.frame)) (sym none) ∙ sym (led other finds) ∙ frame_from finds.0 finds.1 other finds.0.is_root refl finds.4))
 
     -- where it leads to the frame
-    pub led_to_frame : (translation : Translation) → start.found ≡ Some translation → (frame : ℕ) → translation.frame ≡ frame → LeadsToFrame parts pointers id page frame kind
+    pub led_to_frame : (translation : Translation) → start.found ≡ Some translation → (frame : ℕ) → translation.frame ≡ frame → LeadsToFrame napot parts pointers id page frame kind
     led_to_frame translation leads frame same other finds =
         led other finds ∙ ap (option_map (λ (t : Translation). t.frame)) leads ∙ ap (λ (f : ℕ). Some f) same
 
     -- it finds the translation's frame
-    pub finds_by_pointer : (translation : Translation) → start.found ≡ Some translation → FindsByPointer parts pointers id page kind (Pointed start.space translation.frame)
-    finds_by_pointer translation leads = (start, translation, begun, leads, refl)
+    pub finds_ahead : (translation : Translation) → start.found ≡ Some translation → (other : Found) → other ≡ found_from start translation
+        → FindsAhead napot parts pointers id page kind other
+    finds_ahead translation leads other is = (start, translation, begun, leads, is)
+
+    pub not_the_frame : (translation : Translation) (frame : ℕ) (other : Found) → other ≡ found_from start translation → (translation.frame ≡ frame → ⊥)
+        → frame_found other ≢ Some frame
+    not_the_frame translation frame other is elsewhere same =
+        elsewhere (some_is translation.frame frame (sym (frame_from start translation other start.is_root refl is) ∙ same))

@@ -24,5 +24,5 @@ after_writes writes parts value (Err why) new is =
 pub walks_stay : SoftwareStaysBeside → (old new : BoardParts) (blocks : List ShownBlock) (beside : Beside) → WalksAreSound old blocks beside → ChangesAsSoftware old new
     → WalksAreSound new blocks beside
 walks_stay stays old new blocks Nothing sound changes = tt
-walks_stay stays old new blocks (Pointers pointers) sound changes = tt
+walks_stay stays old new blocks (Pointers features pointers) sound changes = tt
 walks_stay stays old new blocks (UnderWay rows) sound changes = record { walks = sound.walks; beside = stays old new blocks rows sound.beside changes; kinds = sound.kinds }

@@ -64,5 +64,5 @@ timely trusted parts each = record {
 pub timely_beside : (trusted : ℕ → Bool) (parts : BoardParts) (beside : Beside) → ((k : ℕ) (on : OnLink) → slice_get parts.fabric k ≡ Some on → IsTimelyMessage parts on)
     → AreTimely (scene_by trusted parts beside)
 timely_beside trusted parts Nothing each = timely trusted parts each
-timely_beside trusted parts (Pointers pointers) each = let alone = timely trusted parts each in record { asked = alone.asked; answered = alone.answered }
+timely_beside trusted parts (Pointers features pointers) each = let alone = timely trusted parts each in record { asked = alone.asked; answered = alone.answered }
 timely_beside trusted parts (UnderWay rows) each = let alone = timely trusted parts each in record { asked = alone.asked; answered = alone.answered }

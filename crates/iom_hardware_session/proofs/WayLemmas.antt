@@ -16,10 +16,11 @@ use Rattle.iom_hardware_session.specs.declared.beside.Beside.TheVariants as besi
 use Rattle.iom_pointer_ways.proofs.SceneLemmas.{pointers_add_their_ways}
 use Rattle.iom_pointer_ways.specs.Scenes.{pointed_scene}
 use Rattle.iom_pointers.specs.declared.pointer.Pointer.{Pointer}
+use Rattle.iom_hardware_ways.specs.Formats.{format_of}
 use Rattle.iom_hardware_ways.specs.Scenes.{ats_kind, flights_in, scene_of}
 use Rattle.iom_inflight.specs.Flights.{FlightRow, row_of}
 use Rattle.iom_iommu.specs.Parts.{flights_of}
-use Rattle.iom_reach.specs.Scene.{AtsKind, PartialWalk, PendingAccess}
+use Rattle.iom_reach.specs.Scene.{AtsKind, PartialWalk, PendingAccess, reading}
 use Rattle.iom_reach.specs.Ways.{Way, Accepted, AnyFrame, ByContext, OnTheWalk}
 use Rattle.iom_stepped_board.specs.Beside.{walk_ids}
 use Rattle.iom_stepped_ways.specs.Scenes.{access_on, added_of, stepped_scene}
@@ -92,12 +93,13 @@ flying rows devices id access same inside = by (row_of rows id) refl inside
     by (Some row) e there = rowed rows devices id row same e
 
 -- A device that has a way is plugged in
-has_place : (trusted : ℕ → Bool) (parts : BoardParts) (events device frame : ℕ) (kind : AccessKind) → BoardInvariant parts events → Way (scene_of trusted parts) device frame kind
+has_place : (napot : Bool) (trusted : ℕ → Bool) (parts : BoardParts) (events device frame : ℕ) (kind : AccessKind) → BoardInvariant parts events
+    → Way (reading (format_of napot) (scene_of trusted parts)) device frame kind
     → (k : ℕ) × (own : Device) × (slice_get parts.devices k ≡ Some own) × (own.id ≡ device)
-has_place trusted parts events device frame kind invariants (Accepted inside) = flying (flights_of parts.iommu).rows parts.devices device (access_on frame kind) invariants.rows inside
-has_place trusted parts events device frame kind invariants (AnyFrame (own, is) bare) = plugged parts.devices device own is
-has_place trusted parts events device frame kind invariants (ByContext context ((own, is), found) through) = plugged parts.devices device own is
-has_place trusted parts events device frame kind invariants (OnTheWalk space table steps mapping (k, less, at) leads serves) = absurd (omega (arith, less))
+has_place napot trusted parts events device frame kind invariants (Accepted inside) = flying (flights_of parts.iommu).rows parts.devices device (access_on frame kind) invariants.rows inside
+has_place napot trusted parts events device frame kind invariants (AnyFrame (own, is) bare) = plugged parts.devices device own is
+has_place napot trusted parts events device frame kind invariants (ByContext context ((own, is), found) through) = plugged parts.devices device own is
+has_place napot trusted parts events device frame kind invariants (OnTheWalk space table steps mapping (k, less, at) leads serves) = absurd (omega (arith, less))
 
 -- so is one that has a request under way
 under_way_place : (rows : List WalkRow) (devices : List Device) (id : ℕ) (own : UnderWay) → walk_ids rows ≡ device_ids devices → under_way_of rows id ≡ Some own
@@ -127,19 +129,19 @@ stepped_place trusted parts rows events device frame kind walks same invariants 
     under_way_place rows parts.devices device own same (ap (under_way_of rows) named ∙ is)
 
 -- so is one that has a way by a pointer
-pointed_place : (trusted : ℕ → Bool) (parts : BoardParts) (pointers : List Pointer) (events device frame : ℕ) (kind : AccessKind) → BoardInvariant parts events
-    → Way (pointed_scene trusted parts pointers) device frame kind → (k : ℕ) × (own : Device) × (slice_get parts.devices k ≡ Some own) × (own.id ≡ device)
-pointed_place trusted parts pointers events device frame kind invariants way = elim ((pointers_add_their_ways (scene_of trusted parts) pointers device frame kind).0 way) [
-  | inl alone ↦ has_place trusted parts events device frame kind invariants alone
+pointed_place : (napot : Bool) (trusted : ℕ → Bool) (parts : BoardParts) (pointers : List Pointer) (events device frame : ℕ) (kind : AccessKind) → BoardInvariant parts events
+    → Way (pointed_scene napot trusted parts pointers) device frame kind → (k : ℕ) × (own : Device) × (slice_get parts.devices k ≡ Some own) × (own.id ≡ device)
+pointed_place napot trusted parts pointers events device frame kind invariants way = elim ((pointers_add_their_ways (reading (format_of napot) (scene_of trusted parts)) pointers device frame kind).0 way) [
+  | inl alone ↦ has_place napot trusted parts events device frame kind invariants alone
   | inr (context, ((own, is), found), through) ↦ plugged parts.devices device own is
 ]
 
 -- of any hardware
 pub place_beside : (trusted : ℕ → Bool) (parts : BoardParts) (blocks : List ShownBlock) (own : Beside) (events device frame : ℕ) (kind : AccessKind) → BoardInvariant parts events
     → WalksAreSound parts blocks own → Way (scene_by trusted parts own) device frame kind → (k : ℕ) × (own : Device) × (slice_get parts.devices k ≡ Some own) × (own.id ≡ device)
-place_beside trusted parts blocks beside.Nothing events device frame kind invariants sound way = has_place trusted parts events device frame kind invariants way
-place_beside trusted parts blocks (beside.Pointers pointers) events device frame kind invariants sound way =
-    pointed_place trusted parts pointers events device frame kind invariants way
+place_beside trusted parts blocks beside.Nothing events device frame kind invariants sound way = has_place false trusted parts events device frame kind invariants way
+place_beside trusted parts blocks (beside.Pointers features pointers) events device frame kind invariants sound way =
+    pointed_place features.napot trusted parts pointers events device frame kind invariants way
 place_beside trusted parts blocks (beside.UnderWay rows) events device frame kind invariants sound way =
     stepped_place trusted parts rows events device frame kind sound.walks sound.beside.board.ids invariants way
 

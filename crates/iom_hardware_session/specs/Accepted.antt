@@ -1,5 +1,5 @@
 -- What is found of a claim `ready` says how requests are answered.
-use Rattle.std.specs.Prelude.{◌≡◌, ◌≢◌, ◌<◌, ◌/◌, ◌^◌, ℕ, true, ⊤, Option, None, Some, IfSome, Result, Ok, Err}
+use Rattle.std.specs.Prelude.{◌≡◌, ◌≢◌, ◌<◌, ◌/◌, ◌^◌, ℕ, true, false, ⊤, Option, None, Some, IfSome, Result, Ok, Err}
 use Rattle.iom_base.specs.Rights.{allows}
 use Rattle.iom_base.specs.Sizes.{page_size}
 use Rattle.iom_base.specs.declared.access.Access.{Access}
@@ -46,13 +46,13 @@ AnswersAre Is parts id page kind = (access : Access) (answer : Result Translatio
 
 -- WHAT IS READY IS ACCEPTED: the device holds a frame at the page, and where that is one of memory, its requests there that its right allows are answered by it
 abbrev pub ReadyIsAccepted : Type 0
-ReadyIsAccepted = (hardware : Board) (before : Claimed) (id page : ℕ) → IsReady hardware before id page → IfSome (context_found (board_parts hardware) id) HasOneStage
+ReadyIsAccepted = (hardware : Board) (before : Claimed) (id page : ℕ) → IsReady false hardware before id page → IfSome (context_found (board_parts hardware) id) HasOneStage
     → (frame : ℕ) × (rights : Rights) × Holds before.history id page (frame, rights)
     × (IsInMemory hardware.memory frame → (kind : AccessKind) → allows rights kind ≡ true → AnswersAre (λ answered. answered ≡ Some frame) (board_parts hardware) id page kind)
 
 -- WHAT ISN'T READY IS NOT ACCEPTED: requests there of some kind that its right allows are not answered by that frame
 abbrev pub UnreadyIsNotAccepted : Type 0
-UnreadyIsNotAccepted = (hardware : Board) (before : Claimed) (id page : ℕ) (found : Found) → ReadyIsWrong (NotReady found) hardware before id page
+UnreadyIsNotAccepted = (hardware : Board) (before : Claimed) (id page : ℕ) (found : Found) → ReadyIsWrong (NotReady found) false hardware before id page
     → IfSome (context_found (board_parts hardware) id) HasOneStage
     → (frame : ℕ) × (rights : Rights) × Holds before.history id page (frame, rights)
     × ((kind : AccessKind) × (allows rights kind ≡ true) × AnswersAre (λ answered. answered ≢ Some frame) (board_parts hardware) id page kind)

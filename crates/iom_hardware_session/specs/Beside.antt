@@ -19,4 +19,4 @@ pub record AreSoundBeside (parts : BoardParts) (blocks : List ShownBlock) (rows 
 abbrev pub WalksAreSound : BoardParts → List ShownBlock → Beside → Type 0
 WalksAreSound parts blocks Nothing = ⊤
 WalksAreSound parts blocks (UnderWay rows) = AreSoundBeside parts blocks rows
-WalksAreSound parts blocks (Pointers pointers) = ⊤
+WalksAreSound parts blocks (Pointers features pointers) = ⊤

@@ -65,4 +65,4 @@ sound_beside_prop parts blocks rows = hlevel (props, distinct_prop, rows_prop, k
 pub walks_are_sound_prop : (parts : BoardParts) (blocks : List ShownBlock) (own : Beside) → IsProp (WalksAreSound parts blocks own)
 walks_are_sound_prop parts blocks beside.Nothing = Unit-prop
 walks_are_sound_prop parts blocks (beside.UnderWay rows) = sound_beside_prop parts blocks rows
-walks_are_sound_prop parts blocks (beside.Pointers pointers) = Unit-prop
+walks_are_sound_prop parts blocks (beside.Pointers features pointers) = Unit-prop

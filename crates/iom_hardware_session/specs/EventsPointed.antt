@@ -28,6 +28,7 @@ use Rattle.iom_machine.specs.declared.event.Event.TheVariants.{Read, Write, Deli
 use Rattle.iom_pointed_board.specs.Roots.{context_found}
 use Rattle.iom_pointed_board.specs.Starts.{WalksAhead}
 use Rattle.iom_pointers.specs.Pointers.{without_covered}
+use Rattle.iom_pointers.specs.declared.features.Features.{Features}
 use Rattle.iom_pointers.specs.declared.pointer.Pointer.{Pointer}
 use Rattle.iom_stepped_requests.specs.declared.request.Request.{Request}
 
@@ -78,9 +79,9 @@ abbrev pub IsOfPlugged : Board → Request → Type 0
 IsOfPlugged board request = (kind : DeviceKind) × (kind_in board.devices.items request.device ≡ Some kind)
 
 -- AHEAD OF THE EVENT its request is walked, if it serves one
-abbrev pub GoesAhead : Event → Board → List Pointer → Board → List Pointer → Type 0
-GoesAhead event old pointers new new_pointers =
-    ((request : Request) × IsOfPlugged old request × IsRequestOf old event request × WalksAhead (board_parts old) pointers request (board_parts new) new_pointers)
+abbrev pub GoesAhead : Features → Event → Board → List Pointer → Board → List Pointer → Type 0
+GoesAhead features event old pointers new new_pointers =
+    ((request : Request) × IsOfPlugged old request × IsRequestOf old event request × WalksAhead features (board_parts old) pointers request (board_parts new) new_pointers)
     ⊎ (((request : Request) → ¬ IsRequestOf old event request) × (board_parts new ≡ board_parts old) × (new_pointers ≡ pointers))
 
 -- what is left of the pointers by a fetch: those that its command doesn't take out
@@ -98,11 +99,11 @@ left_by (Some fetched) pointers = left_by_fetch fetched pointers
 abbrev pub bare : ShownHardware → ShownHardware
 bare hardware = record hardware { beside = Nothing }
 
--- WHAT AN EVENT DOES TO HARDWARE that caches pointers to tables, and to these: its request is walked ahead; then it does what it does to other hardware, and an
--- invalidation takes pointers out
-abbrev pub EffectPointed : Event → Answer → ShownHardware → List Pointer → ShownHardware → List Pointer → Type 0
-EffectPointed event answer old pointers new new_pointers =
+-- WHAT AN EVENT DOES TO HARDWARE that caches pointers to tables, or of which walks know leaves of 64 KiB, and to its pointers: its request is walked ahead; then it
+-- does what it does to other hardware, and an invalidation takes pointers out
+abbrev pub EffectPointed : Features → Event → Answer → ShownHardware → List Pointer → ShownHardware → List Pointer → Type 0
+EffectPointed features event answer old pointers new new_pointers =
     (between : ShownHardware) × (between_pointers : List Pointer)
-    × GoesAhead event old.board pointers between.board between_pointers
+    × GoesAhead features event old.board pointers between.board between_pointers
     × (disks_at_hand between.board ≡ disks_at_hand old.board) × BlocksUnchanged old.inside between.inside
     × EventEffect event answer (bare between) (bare new) × (new_pointers ≡ left_by (fetch_in answer) between_pointers)

@@ -12,7 +12,7 @@ use Rattle.iom_hardware_session.specs.declared.beside.Beside.TheVariants.{Nothin
 use Rattle.iom_hardware_session.specs.declared.state.Session.{Session}
 use Rattle.iom_hardware_session.specs.Ready.{IsReady}
 use Rattle.iom_hardware_session.specs.ReadyPointed.{ArePointersReady}
-use Rattle.iom_hardware_session.specs.Shown.{ShownHardware, shown_in}
+use Rattle.iom_hardware_session.specs.Shown.{ShownHardware, knows_napot, shown_in}
 use Rattle.iom_hardware_ways.specs.Scenes.{scene_of}
 use Rattle.iom_ledger.specs.History.{May}
 use Rattle.iom_pointer_ways.specs.Scenes.{pointed_scene}
@@ -27,7 +27,7 @@ use Rattle.iom_way_survey.specs.Surveys.{is_id_among}
 abbrev pub scene_by : (ℕ → Bool) → BoardParts → Beside → HardwareScene
 scene_by trusted parts Nothing = scene_of trusted parts
 scene_by trusted parts (UnderWay rows) = stepped_scene trusted parts rows
-scene_by trusted parts (Pointers pointers) = pointed_scene trusted parts pointers
+scene_by trusted parts (Pointers features pointers) = pointed_scene features.napot trusted parts pointers
 
 -- so where these devices are trusted with all memory
 abbrev pub scene_with : ShownHardware → List ℕ → HardwareScene
@@ -69,6 +69,6 @@ GoodMeans (claim.Done number) hardware trusted before after = DoneIsGood (scene_
 GoodMeans (claim.HandOff frame) hardware trusted before after = HandOffIsGood (scene_with hardware trusted) before frame
 GoodMeans (claim.Take frame) hardware trusted before after = IsNobodys before frame
 GoodMeans (claim.Grant device page frame rights) hardware trusted before after = IsUnused (scene_with hardware trusted) frame
-GoodMeans (claim.Ready device page) hardware trusted before after = IsReady hardware.board before device page × ArePointersReady hardware before device page
+GoodMeans (claim.Ready device page) hardware trusted before after = IsReady (knows_napot hardware.beside) hardware.board before device page × ArePointersReady hardware before device page
 GoodMeans (claim.Release device page) hardware trusted before after = ⊤
 GoodMeans (claim.Trust device) hardware trusted before after = ⊤

@@ -34,17 +34,17 @@ ComesFromWalks trusted parts rows calls id made =
     (events : ℕ) × (between : BoardParts) × (between_rows : List WalkRow) × (new : BoardParts)
     × DoSteppedInTurn trusted events parts rows calls between between_rows × CommitsOldestAccess between id (Ok (Some made)) new
 
--- the same where it caches these pointers to tables
-abbrev pub ComesFromPointers : (ℕ → Bool) → BoardParts → List Pointer → List PointedCall → ℕ → MadeAt → Type 0
-ComesFromPointers trusted parts pointers calls id made =
+-- the same where it caches these pointers to tables, and its walks know leaves of 64 KiB, or don't
+abbrev pub ComesFromPointers : Bool → (ℕ → Bool) → BoardParts → List Pointer → List PointedCall → ℕ → MadeAt → Type 0
+ComesFromPointers napot trusted parts pointers calls id made =
     (events : ℕ) × (between : BoardParts) × (between_pointers : List Pointer) × (new : BoardParts)
-    × DoPointedInTurn trusted events parts pointers calls between between_pointers × CommitsOldestAccess between id (Ok (Some made)) new
+    × DoPointedInTurn napot trusted events parts pointers calls between between_pointers × CommitsOldestAccess between id (Ok (Some made)) new
 
 -- WHAT MAY COME from there: after some calls of hardware and devices alone the device makes this access
 abbrev pub Comes : (ℕ → Bool) → BoardParts → Beside → ℕ → MadeAt → Type 0
 Comes trusted parts Nothing id made = (calls : List HardwareCall) × ComesFromParts trusted parts calls id made
 Comes trusted parts (UnderWay rows) id made = (calls : List SteppedCall) × ComesFromWalks trusted parts rows calls id made
-Comes trusted parts (Pointers pointers) id made = (calls : List PointedCall) × ComesFromPointers trusted parts pointers calls id made
+Comes trusted parts (Pointers features pointers) id made = (calls : List PointedCall) × ComesFromPointers features.napot trusted parts pointers calls id made
 
 -- so from where the session stands
 abbrev pub ComesToMake : Session → ℕ → MadeAt → Type 0

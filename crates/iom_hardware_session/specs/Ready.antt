@@ -1,5 +1,5 @@
 -- What a request of a device finds at a page, as hardware stands, and what a claim `ready` means by that.
-use Rattle.std.specs.Prelude.{◌≡◌, ◌≢◌, ℕ, ◌*◌, ◌-◌, ◌^◌, true, min, List, Option, None, Some, Result, Ok, Err}
+use Rattle.std.specs.Prelude.{◌≡◌, ◌≢◌, ℕ, ◌*◌, ◌-◌, ◌^◌, Bool, true, false, min, List, Option, None, Some, Result, Ok, Err}
 use Rattle.iom_base.specs.Rights.{allows}
 use Rattle.iom_base.specs.Sizes.{levels_of, page_size}
 use Rattle.iom_base.specs.declared.access.AccessKind.{AccessKind}
@@ -16,11 +16,13 @@ use Rattle.iom_hardware_session.specs.declared.answer.Found.{Found}
 use Rattle.iom_hardware_session.specs.declared.answer.Found.TheVariants.{NoContext, Fault, Walk, Cached}
 use Rattle.iom_hardware_session.specs.declared.answer.Wrong.{Wrong}
 use Rattle.iom_hardware_session.specs.declared.answer.Wrong.TheVariants as wrong
+use Rattle.iom_hardware_session.specs.EventsPointed.{request_for}
 use Rattle.iom_hardware_session.specs.Found.{frame_found}
 use Rattle.iom_iommu.specs.Parts.{translations_of}
 use Rattle.iom_iommu.specs.Service.{cached_for}
 use Rattle.iom_ledger.specs.History.{Holds}
 use Rattle.iom_pointed_board.specs.Roots.{context_found}
+use Rattle.iom_pointed_board.specs.Starts.{IsFoundFromRoot}
 use Rattle.iom_registers.specs.declared.directory.DirectoryMode.{DirectoryMode}
 use Rattle.iom_registers.specs.declared.directory.DirectoryMode.TheVariants as mode
 use Rattle.iom_stage_walk.specs.Paths.{ReachesFirst, StopsFirst}
@@ -101,29 +103,41 @@ ModeFinds mode.ThreeLevels parts id page kind found = ContextFinds parts (contex
 abbrev pub RequestFinds : BoardParts → (id page : ℕ) → AccessKind → Found → Type 0
 RequestFinds parts id page kind found = ModeFinds (mode_in parts) parts id page kind found
 
+-- what is found by a walk ahead that led to this translation; where it led to none, by hardware's own walk
+abbrev pub LedFinds : Option Translation → (Found → Type 0) → Found → Type 0
+LedFinds None Finds found = Finds found
+LedFinds (Some translation) Finds found = found ≡ Walk translation.frame
+
+-- the same where walks know leaves of 64 KiB, or don't
+abbrev pub FindsBy : Bool → BoardParts → (id page : ℕ) → AccessKind → Found → Type 0
+FindsBy false parts id page kind found = RequestFinds parts id page kind found
+FindsBy true parts id page kind found =
+    (led : Option Translation) × IsFoundFromRoot parts (request_for id (address_of page) kind) led × LedFinds led (RequestFinds parts id page kind) found
+
 -- it is accepted on this frame
-abbrev pub FindsFrame : BoardParts → (id page frame : ℕ) → AccessKind → Type 0
-FindsFrame parts id page frame kind = (found : Found) × RequestFinds parts id page kind found × (frame_found found ≡ Some frame)
+abbrev pub FindsFrame : Bool → BoardParts → (id page frame : ℕ) → AccessKind → Type 0
+FindsFrame napot parts id page frame kind = (found : Found) × FindsBy napot parts id page kind found × (frame_found found ≡ Some frame)
 
 -- it finds this instead
-abbrev pub FindsInstead : BoardParts → (id page frame : ℕ) → AccessKind → Found → Type 0
-FindsInstead parts id page frame kind found = RequestFinds parts id page kind found × (frame_found found ≢ Some frame)
+abbrev pub FindsInstead : Bool → BoardParts → (id page frame : ℕ) → AccessKind → Found → Type 0
+FindsInstead napot parts id page frame kind found = FindsBy napot parts id page kind found × (frame_found found ≢ Some frame)
 
 -- READY: the device holds a frame at the page, and each access that its right allows is accepted on that frame
-abbrev pub IsReady : Board → Claimed → (id page : ℕ) → Type 0
-IsReady hardware before id page =
+abbrev pub IsReady : Bool → Board → Claimed → (id page : ℕ) → Type 0
+IsReady napot hardware before id page =
     (frame : ℕ) × (rights : Rights) × Holds before.history id page (frame, rights)
-    × ((kind : AccessKind) → allows rights kind ≡ true → FindsFrame (board_parts hardware) id page frame kind)
+    × ((kind : AccessKind) → allows rights kind ≡ true → FindsFrame napot (board_parts hardware) id page frame kind)
 
 -- NOT READY: one such access finds something else
-abbrev pub IsUnready : BoardParts → (id page frame : ℕ) → Rights → Wrong → Type 0
-IsUnready parts id page frame rights (wrong.NotReady found) = (kind : AccessKind) × (allows rights kind ≡ true) × FindsInstead parts id page frame kind found
-IsUnready parts id page frame rights wrong.Held = ⊥
-IsUnready parts id page frame rights wrong.Lingers = ⊥
-IsUnready parts id page frame rights (wrong.Reached own kind) = ⊥
-IsUnready parts id page frame rights wrong.Used = ⊥
-IsUnready parts id page frame rights wrong.Uncertain = ⊥
+abbrev pub IsUnready : Bool → BoardParts → (id page frame : ℕ) → Rights → Wrong → Type 0
+IsUnready napot parts id page frame rights (wrong.NotReady found) =
+    (kind : AccessKind) × (allows rights kind ≡ true) × FindsInstead napot parts id page frame kind found
+IsUnready napot parts id page frame rights wrong.Held = ⊥
+IsUnready napot parts id page frame rights wrong.Lingers = ⊥
+IsUnready napot parts id page frame rights (wrong.Reached own kind) = ⊥
+IsUnready napot parts id page frame rights wrong.Used = ⊥
+IsUnready napot parts id page frame rights wrong.Uncertain = ⊥
 
-abbrev pub ReadyIsWrong : Wrong → Board → Claimed → (id page : ℕ) → Type 0
-ReadyIsWrong why hardware before id page =
-    (frame : ℕ) × (rights : Rights) × Holds before.history id page (frame, rights) × IsUnready (board_parts hardware) id page frame rights why
+abbrev pub ReadyIsWrong : Wrong → Bool → Board → Claimed → (id page : ℕ) → Type 0
+ReadyIsWrong why napot hardware before id page =
+    (frame : ℕ) × (rights : Rights) × Holds before.history id page (frame, rights) × IsUnready napot (board_parts hardware) id page frame rights why

@@ -15,7 +15,7 @@ use Rattle.iom_hardware_session.specs.declared.answer.Wrong.TheVariants as wrong
 use Rattle.iom_hardware_session.specs.Good.{scene_with}
 use Rattle.iom_hardware_session.specs.Ready.{ReadyIsWrong}
 use Rattle.iom_hardware_session.specs.ReadyPointed.{IsUnreadyByPointer}
-use Rattle.iom_hardware_session.specs.Shown.{ShownHardware}
+use Rattle.iom_hardware_session.specs.Shown.{ShownHardware, knows_napot}
 use Rattle.iom_hardware_session.specs.Timely.{IsTimelyMessage}
 use Rattle.iom_ledger.specs.History.{May}
 use Rattle.iom_reach.specs.Scene.{HardwareScene}
@@ -89,7 +89,7 @@ WrongMeans (claim.HandOff frame) why hardware trusted before after = HandOffIsWr
 WrongMeans (claim.Take frame) why hardware trusted before after = TakeIsWrong why before frame
 WrongMeans (claim.Grant device page frame rights) why hardware trusted before after = GrantIsWrong why hardware trusted frame
 WrongMeans (claim.Ready device page) why hardware trusted before after =
-    ReadyIsWrong why hardware.board before device page ⊎ IsUnreadyByPointer hardware before device page why
+    ReadyIsWrong why (knows_napot hardware.beside) hardware.board before device page ⊎ IsUnreadyByPointer hardware before device page why
 WrongMeans (claim.Release device page) why hardware trusted before after = ⊥
 WrongMeans (claim.Trust device) why hardware trusted before after = ⊥
 

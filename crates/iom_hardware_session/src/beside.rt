@@ -1,4 +1,4 @@
-use iom_pointers::Pointers;
+use iom_pointers::{Features, Pointers};
 use iom_walks::Walks;
 
 /// What hardware keeps beside its registers, its caches and its accesses in flight, by how its walks are made.
@@ -8,6 +8,7 @@ pub enum Beside {
     Nothing,
     /// The requests that are under way: a walk takes several events.
     UnderWay(Walks),
-    /// The pointers to tables that it caches: a walk is one event, and may begin at one of them.
-    Pointers(Pointers),
+    /// What its walks do beside, and the pointers to tables that it caches: a walk is one event, and may begin at one of
+    /// these.
+    Pointers(Features, Pointers),
 }

@@ -12,13 +12,13 @@ ghost use Rattle.iom_hardware_session.specs.Good.{GoodMeans};
 ghost use Rattle.iom_hardware_session.specs.Ready.{IsReady, ReadyIsWrong};
 ghost use Rattle.iom_hardware_session.specs.ReadyPointed.{ArePointersReady, IsUnreadyByPointer, PointersLead, PointersLeadAstray};
 ghost use Rattle.iom_hardware_session.specs.Lines.{KeepsHardware, KeepsAll, TrustsAlso};
-ghost use Rattle.iom_hardware_session.specs.Shown.{shown_in};
+ghost use Rattle.iom_hardware_session.specs.Shown.{knows_napot, shown_in};
 ghost use Rattle.iom_hardware_session.specs.Watching.{WatchesClaim};
 ghost use Rattle.iom_hardware_session.specs.Wrong.{IfWrong, WrongMeans};
 
 use crate::answer::{ClaimAnswer, Wrong};
 use crate::beside::Beside;
-use crate::ready::{unreadiness, unreadiness_by_pointer};
+use crate::ready::{unreadiness, unreadiness_ahead};
 use crate::state::Session;
 use crate::watched::{GoodClaim, drop_hand_off, watch};
 use iom_base::{AccessKind, DeviceId, GrantRights, Refusal, Rights};
@@ -29,7 +29,7 @@ use iom_phys_mem::Bytes;
 /// The pages of the 64-bit address space.
 const PAGES: u64 = 1 << 52;
 
-/// What a request at the page finds from a cached pointer, where hardware caches any, and it isn't the frame with the right.
+/// What a request at the page finds that is walked ahead, where hardware does so, and it isn't the frame with the right.
 fn unreadiness_beside(
     hardware: &Board,
     beside: &Beside,
@@ -43,10 +43,26 @@ fn unreadiness_beside(
         → PointersLead beside.now (board_parts hardware.now) device page frame kind) }
 {
     match beside {
-        Beside::Pointers(pointers) => {
-            unreadiness_by_pointer(hardware, pointers, device, page, frame, rights)
-        }
+        Beside::Pointers(features, pointers) => unreadiness_ahead(
+            hardware,
+            features.napot,
+            pointers,
+            device,
+            page,
+            frame,
+            rights,
+        ),
         Beside::Nothing | Beside::UnderWay(_) => None,
+    }
+}
+
+/// Whether walks know leaves of 64 KiB.
+fn knows_napot(beside: &Beside) -> bool
+    ensures { result ≡ knows_napot beside.now }
+{
+    match beside {
+        Beside::Pointers(features, _) => features.napot,
+        Beside::Nothing | Beside::UnderWay(_) => false,
     }
 }
 
@@ -260,9 +276,9 @@ impl Session {
     /// A request of the device at the page is accepted now, on what it holds there.
     pub(crate) fn claim_ready(&mut self, device: DeviceId, page: u64) -> ClaimAnswer
         ensures good { (c : Claimed) → ShowsClaimed self.old.claims c → result ≡ ClaimAnswer.Good
-            → IsReady self.new.hardware.board c device page × ArePointersReady (shown_in self.new) c device page }
+            → IsReady (knows_napot self.new.beside) self.new.hardware.board c device page × ArePointersReady (shown_in self.new) c device page }
         ensures wrong { (c : Claimed) → ShowsClaimed self.old.claims c
-            → IfWrong result (λ why. ReadyIsWrong why self.new.hardware.board c device page ⊎ IsUnreadyByPointer (shown_in self.new) c device page why) }
+            → IfWrong result (λ why. ReadyIsWrong why (knows_napot self.new.beside) self.new.hardware.board c device page ⊎ IsUnreadyByPointer (shown_in self.new) c device page why) }
         ensures admitted { (c : Claimed) → ShowsClaimed self.old.claims c → ClaimIsAdmitted (said.Ready device page) result self.old.hardware.board c }
         ensures rest { KeepsAll self.old self.new }
     {
@@ -273,7 +289,8 @@ impl Session {
             return ClaimAnswer::Refused(Refusal::NotGranted);
         };
         let board = &self.hardware.board;
-        if let Some(why) = unreadiness(board, device, page, frame, rights) {
+        let napot = knows_napot(&self.beside);
+        if let Some(why) = unreadiness(board, napot, device, page, frame, rights) {
             return ClaimAnswer::Wrong(why);
         }
         match unreadiness_beside(board, &self.beside, device, page, frame, rights) {

@@ -23,8 +23,9 @@ impl Session {
         match &mut self.beside {
             Beside::Nothing => whole_events::event(&mut self.hardware, event),
             Beside::UnderWay(walks) => stepped_events::event(&mut self.hardware, walks, event),
-            Beside::Pointers(pointers) => pointed_events::event(
+            Beside::Pointers(features, pointers) => pointed_events::event(
                 &mut self.hardware,
+                *features,
                 pointers,
                 event,
             ),
@@ -40,7 +41,7 @@ impl Session {
     {
         match &mut self.beside {
             Beside::UnderWay(walks) => stepped_events::load(&mut self.hardware, walks, device),
-            Beside::Nothing | Beside::Pointers(_) => match self.hardware.board.kind_of(device) {
+            Beside::Nothing | Beside::Pointers(_, _) => match self.hardware.board.kind_of(device) {
                 None => Answer::WalkLoad(Err(Refusal::NoSuchDevice)),
                 Some(_) => Answer::WalkLoad(Ok(Load::Nothing)),
             },

@@ -41,9 +41,9 @@ fn look_beside(survey: &mut Survey, hardware: &Board, beside: &Beside, trusted: 
     match beside {
         Beside::Nothing => survey.look(hardware, None, trusted),
         Beside::UnderWay(walks) => survey.look(hardware, Some(walks), trusted),
-        Beside::Pointers(pointers) => {
+        Beside::Pointers(features, pointers) => {
             survey.look(hardware, None, trusted);
-            survey.look_along(hardware, pointers);
+            survey.look_along(hardware, features.napot, pointers);
         }
     }
 }

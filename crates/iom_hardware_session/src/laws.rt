@@ -1,6 +1,6 @@
 //! What follows of a claim that is good.
 ghost use Rattle.iom_hardware_session.specs.Accepted.{ReadyIsAccepted, UnreadyIsNotAccepted};
-ghost use Rattle.iom_hardware_session.specs.AcceptedPointed.{AstrayIsNotAccepted, PointedReadyIsAccepted};
+ghost use Rattle.iom_hardware_session.specs.AcceptedPointed.{AstrayIsNotAccepted, PointedReadyIsAccepted, UnreadyAheadIsNotAccepted};
 ghost use Rattle.iom_hardware_session.specs.Laws.{DoneStaysDone, HandedOffStaysFree, GoodAgainHolds};
 ghost use Rattle.iom_hardware_session.specs.Sessions.{AccessesAreClaimed, DoneStaysOutOfReach, HandedOffStaysUntouched};
 
@@ -37,13 +37,15 @@ pub fn session_law()
 /// (`accepted`). Where the claim is `Wrong`, it answers those of some kind that is allowed by no frame, or by another
 /// (`refused`). Both hold of a device whose context has tables in one stage at most.
 ///
-/// Where hardware caches pointers to tables, a request may be walked ahead of its event, and what is found from a pointer
-/// is cached. Where the claim is `Good`, such a request is answered by the frame too (`ahead`). Where it is `Wrong` because
-/// a walk that begins at a pointer finds something else, those of some kind that is allowed are answered by no frame, or by
-/// another (`astray`). It does nothing.
+/// Where hardware caches pointers to tables, or its walks know leaves of 64 KiB, a request is walked ahead of its event, and
+/// what is found so is cached. Where the claim is `Good`, such a request is answered by the frame (`ahead`). Where it is
+/// `Wrong` because a walk ahead finds something else, those of some kind that is allowed are answered by no frame, or by
+/// another (`astray`). The same holds where walks know leaves of 64 KiB and the claim is `Wrong` by what is found from the
+/// root, as long as no pointer is cached (`refused_ahead`). It does nothing.
 pub fn ready_law()
     ensures accepted { ReadyIsAccepted }
     ensures refused { UnreadyIsNotAccepted }
     ensures ahead { PointedReadyIsAccepted }
     ensures astray { AstrayIsNotAccepted }
+    ensures refused_ahead { UnreadyAheadIsNotAccepted }
 {}

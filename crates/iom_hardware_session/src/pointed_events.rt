@@ -1,4 +1,5 @@
-// What devices and hardware do, and what the processor stores and loads, where a walk may begin at a cached pointer.
+// What devices and hardware do, and what the processor stores and loads, where a walk may begin at a cached pointer, or knows
+// leaves of 64 KiB.
 ghost use Rattle.std.specs.Prelude.{◌≡◌, ◌↔◌, ◌+◌, ◌<◌, ◌≤◌, ◌^◌, false, IfNone, IfSome, IsTrue};
 ghost use Rattle.iom_hardware.specs.Inside.{inside};
 ghost use Rattle.iom_hardware.specs.Blocks.{BlocksUnchanged};
@@ -23,7 +24,7 @@ use iom_hardware::Hardware;
 use iom_iommu::Fetched;
 use iom_machine::Event;
 use iom_pointed_board::{context_of, walk_ahead};
-use iom_pointers::Pointers;
+use iom_pointers::{Features, Pointers};
 use iom_stepped_requests::Request;
 use iom_stepped_walk::Asked;
 use iom_virtio_blk::MemoryDisk;
@@ -124,16 +125,21 @@ fn request_of(hardware: &Board, event: &Event) -> Option<Request>
 }
 
 /// The event's request is walked ahead, if it serves one.
-fn go_ahead(hardware: &mut Hardware<MemoryDisk>, pointers: &mut Pointers, event: &Event)
+fn go_ahead(
+    hardware: &mut Hardware<MemoryDisk>,
+    features: Features,
+    pointers: &mut Pointers,
+    event: &Event,
+)
     requires invariants { HardwareInvariant hardware.old }
-    ensures ahead { GoesAhead event.now hardware.old.board pointers.old hardware.new.board pointers.new }
+    ensures ahead { GoesAhead features event.now hardware.old.board pointers.old hardware.new.board pointers.new }
     ensures disks { disks_at_hand hardware.new.board ≡ disks_at_hand hardware.old.board }
     ensures blocks { BlocksUnchanged (inside disk_state hardware.old) (inside disk_state hardware.new) }
     ensures invariants { HardwareInvariant hardware.new }
     ensures events { hardware.new.board.events ≡ hardware.old.board.events }
 {
     if let Some(request) = request_of(&hardware.board, event) {
-        walk_ahead(&mut hardware.board, pointers, request);
+        walk_ahead(&mut hardware.board, features, pointers, request);
     }
 }
 
@@ -149,20 +155,21 @@ fn forget(pointers: &mut Pointers, answer: &Answer)
 /// What devices, hardware or the processor do; an event that is none of theirs does nothing.
 pub(crate) fn event(
     hardware: &mut Hardware<MemoryDisk>,
+    features: Features,
     pointers: &mut Pointers,
     event: &Event,
 ) -> Answer
     requires invariants { HardwareInvariant hardware.old }
     requires count { hardware.old.board.events + 1 < 2 ^ 64 }
     ensures effect { IsOfHardware event.now
-        → EffectPointed event.now result (shown_beside (beside.Pointers pointers.old) hardware.old) pointers.old
-        (shown_beside (beside.Pointers pointers.new) hardware.new) pointers.new }
+        → EffectPointed features event.now result (shown_beside (beside.Pointers features pointers.old) hardware.old) pointers.old
+        (shown_beside (beside.Pointers features pointers.new) hardware.new) pointers.new }
     ensures foreign { is_of_hardware event.now ≡ false
-        → IsForeign result (shown_beside (beside.Pointers pointers.old) hardware.old) (shown_beside (beside.Pointers pointers.new) hardware.new) }
+        → IsForeign result (shown_beside (beside.Pointers features pointers.old) hardware.old) (shown_beside (beside.Pointers features pointers.new) hardware.new) }
     ensures invariants { HardwareInvariant hardware.new }
     ensures counted { hardware.new.board.events ≤ hardware.old.board.events + 1 }
 {
-    go_ahead(hardware, pointers, event);
+    go_ahead(hardware, features, pointers, event);
     let answer = whole_events::event(hardware, event);
     forget(pointers, &answer);
     answer

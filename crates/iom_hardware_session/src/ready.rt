@@ -2,21 +2,22 @@
 ghost use Rattle.std.specs.Prelude.{◌≡◌, true, Some, IfSome, IfNone};
 ghost use Rattle.iom_base.specs.Rights.{allows};
 ghost use Rattle.iom_board.specs.BoardParts.{board_parts};
-ghost use Rattle.iom_hardware_session.specs.Ready.{address_of, found_by_walk, looked_space, ContextFinds, FindsFrame, FindsInstead, FirstFinds, IsUnready, RequestFinds, StagesFind};
-ghost use Rattle.iom_hardware_session.specs.ReadyPointed.{LeadsAstray, LeadsInstead, LeadsToFrame};
+ghost use Rattle.iom_hardware_session.specs.EventsPointed.{request_for};
+ghost use Rattle.iom_hardware_session.specs.Ready.{address_of, found_by_walk, looked_space, ContextFinds, FindsFrame, FindsInstead, FindsBy, FirstFinds, IsUnready, RequestFinds, StagesFind};
+ghost use Rattle.iom_hardware_session.specs.ReadyPointed.{LeadsAstray, LeadsInstead, LeadsToFrame, found_from};
 
 use crate::answer::{Found, Wrong};
 use iom_base::{AccessKind, DeviceId, PAGE_SIZE, Rights};
 use iom_board::Board;
 use iom_device_dir::{Context, FirstStage, SecondStage};
 use iom_phys_mem::Memory;
-use iom_pointed_board::{cached_translation, context_of, start_of};
+use iom_pointed_board::{Start, cached_translation, context_of, found_from_root, start_of};
 use iom_pointers::Pointers;
 use iom_registers::DirectoryMode;
 use iom_stage_walk::{WalkFault, Walked, walk_first, walk_second};
 use iom_stepped_requests::Request;
 use iom_stepped_walk::Asked;
-use iom_tlb::Space;
+use iom_tlb::{Space, Translation};
 
 impl Found {
     /// A walk that ended so.
@@ -95,7 +96,7 @@ fn context_finds(hardware: &Board, found: Option<Context>, page: u64, kind: Acce
     stages_find(&hardware.memory, &context, page, kind)
 }
 
-/// What a request of the device for an access of the kind at the page finds now.
+/// What a request of the device for an access of the kind at the page finds now by hardware's own walk.
 fn request_finds(hardware: &Board, device: DeviceId, page: u64, kind: AccessKind) -> Found
     ensures { RequestFinds (board_parts hardware.now) device page kind result }
 {
@@ -110,18 +111,45 @@ fn request_finds(hardware: &Board, device: DeviceId, page: u64, kind: AccessKind
     }
 }
 
+/// The request of the device for such an access at the page's first byte.
+fn request_at(device: DeviceId, page: u64, kind: AccessKind) -> Request
+    ensures { result ≡ request_for device (address_of page) kind }
+{
+    Request {
+        device,
+        asked: Asked {
+            address: address_of(page),
+            kind,
+        },
+    }
+}
+
+/// What it finds, where walks know leaves of 64 KiB, or don't.
+fn finds_by(hardware: &Board, napot: bool, device: DeviceId, page: u64, kind: AccessKind) -> Found
+    ensures { FindsBy napot (board_parts hardware.now) device page kind result }
+{
+    if !napot {
+        return request_finds(hardware, device, page, kind);
+    }
+    match found_from_root(hardware, request_at(device, page, kind)) {
+        Some(led) => Found::by_walk(u64::from(led.frame)),
+        None => request_finds(hardware, device, page, kind),
+    }
+}
+
 /// What it finds where that isn't the frame.
 fn found_instead(
     hardware: &Board,
+    napot: bool,
     device: DeviceId,
     page: u64,
     frame: u32,
     kind: AccessKind,
 ) -> Option<Found>
-    ensures some { IfSome result (FindsInstead (board_parts hardware.now) device page frame kind) }
-    ensures none { IfNone result (FindsFrame (board_parts hardware.now) device page frame kind) }
+    ensures some { IfSome result (FindsInstead napot (board_parts hardware.now) device page frame kind) }
+    ensures none { IfNone result (FindsFrame napot (board_parts hardware.now) device page frame kind) }
 {
-    let found = request_finds(hardware, device, page, kind);
+    let found = finds_by(hardware, napot, device, page, kind);
     if found.frame() == Some(u64::from(frame)) {
         return None;
     }
@@ -131,74 +159,102 @@ fn found_instead(
 /// What it finds where that isn't the frame, though the right allows the access.
 fn found_against(
     hardware: &Board,
+    napot: bool,
     device: DeviceId,
     page: u64,
     frame: u32,
     rights: Rights,
     kind: AccessKind,
 ) -> Option<Found>
-    ensures some { IfSome result (λ found. (allows rights kind ≡ true) × FindsInstead (board_parts hardware.now) device page frame kind found) }
-    ensures none { IfNone result (allows rights kind ≡ true → FindsFrame (board_parts hardware.now) device page frame kind) }
+    ensures some { IfSome result (λ found. (allows rights kind ≡ true) × FindsInstead napot (board_parts hardware.now) device page frame kind found) }
+    ensures none { IfNone result (allows rights kind ≡ true → FindsFrame napot (board_parts hardware.now) device page frame kind) }
 {
     if !rights.allows(kind) {
         return None;
     }
-    found_instead(hardware, device, page, frame, kind)
+    found_instead(hardware, napot, device, page, frame, kind)
 }
 
 /// What a request at the page finds, where it isn't the frame with the right: a read, and then a write, as far as the right allows
 /// them.
 pub(crate) fn unreadiness(
     hardware: &Board,
+    napot: bool,
     device: DeviceId,
     page: u64,
     frame: u32,
     rights: Rights,
 ) -> Option<Wrong>
-    ensures some { IfSome result (IsUnready (board_parts hardware.now) device page frame rights) }
-    ensures none { IfNone result ((kind : AccessKind) → allows rights kind ≡ true → FindsFrame (board_parts hardware.now) device page frame kind) }
+    ensures some { IfSome result (IsUnready napot (board_parts hardware.now) device page frame rights) }
+    ensures none { IfNone result ((kind : AccessKind) → allows rights kind ≡ true → FindsFrame napot (board_parts hardware.now) device page frame kind) }
 {
-    if let Some(found) = found_against(hardware, device, page, frame, rights, AccessKind::Read) {
+    let reads = found_against(
+        hardware,
+        napot,
+        device,
+        page,
+        frame,
+        rights,
+        AccessKind::Read,
+    );
+    if let Some(found) = reads {
         return Some(Wrong::NotReady(found));
     }
-    if let Some(found) = found_against(hardware, device, page, frame, rights, AccessKind::Write) {
+    let writes = found_against(
+        hardware,
+        napot,
+        device,
+        page,
+        frame,
+        rights,
+        AccessKind::Write,
+    );
+    if let Some(found) = writes {
         return Some(Wrong::NotReady(found));
     }
     None
 }
 
-/// What a request finds whose walk begins at a cached pointer, where that isn't the frame.
+/// What a walk finds that led to this translation: from the root, or from a cached pointer.
+fn found_from(start: Start, translation: Translation) -> Found
+    ensures { result ≡ found_from start translation }
+{
+    if start.is_root {
+        return Found::by_walk(u64::from(translation.frame));
+    }
+    Found::Pointed {
+        space: start.space,
+        frame: translation.frame,
+    }
+}
+
+/// What a request finds that is walked ahead, where that isn't the frame.
 fn led_instead(
     hardware: &Board,
+    napot: bool,
     pointers: &Pointers,
     device: DeviceId,
     page: u64,
     frame: u32,
     kind: AccessKind,
 ) -> Option<Found>
-    ensures some { IfSome result (LeadsInstead (board_parts hardware.now) pointers.now device page frame kind) }
-    ensures none { IfNone result (LeadsToFrame (board_parts hardware.now) pointers.now device page frame kind) }
+    ensures some { IfSome result (LeadsInstead napot (board_parts hardware.now) pointers.now device page frame kind) }
+    ensures none { IfNone result (LeadsToFrame napot (board_parts hardware.now) pointers.now device page frame kind) }
 {
     // Of each key one pointer is cached, so a walk begins in one way alone.
     pointers.facts();
-    let asked = Asked {
-        address: address_of(page),
-        kind,
-    };
-    let start = start_of(hardware, pointers, Request { device, asked })?;
+    let start = start_of(hardware, napot, pointers, request_at(device, page, kind))?;
     let translation = start.found?;
     if translation.frame == frame {
         return None;
     }
-    Some(Found::Pointed {
-        space: start.space,
-        frame: translation.frame,
-    })
+    Some(found_from(start, translation))
 }
 
 /// What it finds from there where that isn't the frame, though the right allows the access.
 fn led_against(
     hardware: &Board,
+    napot: bool,
     pointers: &Pointers,
     device: DeviceId,
     page: u64,
@@ -206,49 +262,54 @@ fn led_against(
     rights: Rights,
     kind: AccessKind,
 ) -> Option<Found>
-    ensures some { IfSome result (λ found. (allows rights kind ≡ true) × LeadsInstead (board_parts hardware.now) pointers.now device page frame kind found) }
-    ensures none { IfNone result (allows rights kind ≡ true → LeadsToFrame (board_parts hardware.now) pointers.now device page frame kind) }
+    ensures some { IfSome result (λ found. (allows rights kind ≡ true) × LeadsInstead napot (board_parts hardware.now) pointers.now device page frame kind found) }
+    ensures none { IfNone result (allows rights kind ≡ true → LeadsToFrame napot (board_parts hardware.now) pointers.now device page frame kind) }
 {
     if !rights.allows(kind) {
         return None;
     }
-    led_instead(hardware, pointers, device, page, frame, kind)
+    led_instead(hardware, napot, pointers, device, page, frame, kind)
 }
 
-/// What a request at the page finds from a cached pointer, where it isn't the frame with the right: a read, and then a write,
-/// as far as the right allows them.
-pub(crate) fn unreadiness_by_pointer(
+/// What a request at the page finds that is walked ahead, where it isn't the frame with the right: a read, and then a write, as
+/// far as the right allows them.
+pub(crate) fn unreadiness_ahead(
     hardware: &Board,
+    napot: bool,
     pointers: &Pointers,
     device: DeviceId,
     page: u64,
     frame: u32,
     rights: Rights,
 ) -> Option<Wrong>
-    ensures some { IfSome result (LeadsAstray (board_parts hardware.now) pointers.now device page frame rights) }
+    ensures some { IfSome result (LeadsAstray napot (board_parts hardware.now) pointers.now device page frame rights) }
     ensures none { IfNone result ((kind : AccessKind) → allows rights kind ≡ true
-        → LeadsToFrame (board_parts hardware.now) pointers.now device page frame kind) }
+        → LeadsToFrame napot (board_parts hardware.now) pointers.now device page frame kind) }
 {
-    if let Some(found) = led_against(
+    let reads = led_against(
         hardware,
+        napot,
         pointers,
         device,
         page,
         frame,
         rights,
         AccessKind::Read,
-    ) {
+    );
+    if let Some(found) = reads {
         return Some(Wrong::NotReady(found));
     }
-    if let Some(found) = led_against(
+    let writes = led_against(
         hardware,
+        napot,
         pointers,
         device,
         page,
         frame,
         rights,
         AccessKind::Write,
-    ) {
+    );
+    if let Some(found) = writes {
         return Some(Wrong::NotReady(found));
     }
     None

@@ -11,7 +11,8 @@ ghost use Rattle.iom_hardware_session.specs.Answered.{judgement_in};
 ghost use Rattle.iom_hardware_session.specs.Runs.{is_wrong_claim, has_fallen, is_wrong_by};
 ghost use Rattle.iom_hardware_session.specs.Good.{GoodMeans};
 ghost use Rattle.iom_hardware_session.specs.Paces.{beside_at_power_on};
-ghost use Rattle.iom_hardware_session.specs.Shown.{shown_in, walks_in, pointers_in};
+ghost use Rattle.iom_hardware_session.specs.declared.beside.Beside.TheVariants as kept;
+ghost use Rattle.iom_hardware_session.specs.Shown.{features_in, pointers_in, shown_in, walks_in};
 ghost use Rattle.iom_hardware_session.specs.Watching.{WatchesClaim};
 ghost use Rattle.iom_hardware_session.specs.Wrong.{IfWrong, WrongMeans};
 ghost use Rattle.iom_hardware_session.specs.Lines.{Trusts, LineEffect, TrustsBy, IsGoodLine, IsWrongLine, WatchesStep, WatchesBy, writes, is_of_software, claimed_by, made_by, IsViolation, IsAllowed, IsAdmittedLine};
@@ -31,7 +32,7 @@ use iom_hardware_script::{Claim, HardwareLine, Pace, Setup};
 use iom_inflight::MadeAt;
 use iom_machine::Event;
 use iom_phys_mem::MemError;
-use iom_pointers::Pointers;
+use iom_pointers::{Features, Pointers};
 use iom_program_disks::program_disks;
 use iom_stepped_hardware::laws::events_stay_beside;
 use iom_walks::Walks;
@@ -90,7 +91,7 @@ impl Session {
     {
         match &self.beside {
             Beside::UnderWay(walks) => Some(walks),
-            Beside::Nothing | Beside::Pointers(_) => None,
+            Beside::Nothing | Beside::Pointers(_, _) => None,
         }
     }
 
@@ -99,7 +100,17 @@ impl Session {
         ensures { option_map (λ p. p.now) result ≡ pointers_in self.now.beside }
     {
         match &self.beside {
-            Beside::Pointers(pointers) => Some(pointers),
+            Beside::Pointers(_, pointers) => Some(pointers),
+            Beside::Nothing | Beside::UnderWay(_) => None,
+        }
+    }
+
+    /// What walks do beside those of the model's own IOMMU, where requests are walked ahead; else None.
+    pub fn features(&self) -> Option<Features>
+        ensures { result ≡ features_in self.now.beside }
+    {
+        match &self.beside {
+            Beside::Pointers(features, _) => Some(*features),
             Beside::Nothing | Beside::UnderWay(_) => None,
         }
     }
@@ -246,6 +257,14 @@ impl Session {
     }
 }
 
+/// What hardware keeps beside it at power-on that walks requests ahead: no pointer yet.
+fn ahead_of(alloc: Global, nonleaf: bool, napot: bool) -> Result<Beside, AllocError>
+    ensures { IfOk result (λ beside. beside ≡ kept.Pointers (record { nonleaf = nonleaf; napot = napot }) []) }
+{
+    let pointers = Pointers::new(alloc)?;
+    Ok(Beside::Pointers(Features { nonleaf, napot }, pointers))
+}
+
 /// What hardware of this pace keeps beside it at power-on: nothing yet, with room for it.
 fn beside_of(alloc: Global, pace: Pace) -> Result<Beside, AllocError>
     ensures { IfOk result (λ beside. beside ≡ beside_at_power_on pace) }
@@ -256,10 +275,9 @@ fn beside_of(alloc: Global, pace: Pace) -> Result<Beside, AllocError>
             let walks = Walks::new(alloc)?;
             Ok(Beside::UnderWay(walks))
         }
-        Pace::Pointed => {
-            let pointers = Pointers::new(alloc)?;
-            Ok(Beside::Pointers(pointers))
-        }
+        Pace::Pointed => ahead_of(alloc, true, false),
+        Pace::Napot => ahead_of(alloc, false, true),
+        Pace::PointedNapot => ahead_of(alloc, true, true),
     }
 }
 

@@ -1,4 +1,5 @@
 pub mod FormatLemmas
+pub mod NapotLemmas
 pub mod WalkLaws
 pub mod BackLemmas
 pub mod PageIndices

@@ -1,6 +1,6 @@
 -- How the hardware's memory is read, as formats of walks: entries of page tables, of the directory and of the command queue (RISC-V Privileged
 -- Architecture, "Sv39" and "Sv48"; IOMMU specification, sections 2.1 and 3.1).
-use Rattle.std.specs.Prelude.{ℕ, zero, suc, ◌+◌, ◌*◌, ◌/◌, ◌%◌, ◌==◌, nat_lt, List, [], ◌∷◌, map, drop, Option, None, option_map, Result, Ok, Err, if◌then◌else◌}
+use Rattle.std.specs.Prelude.{ℕ, zero, suc, ◌+◌, ◌*◌, ◌/◌, ◌%◌, ◌==◌, nat_lt, Bool, true, false, List, [], ◌∷◌, map, drop, Option, None, option_map, Result, Ok, Err, if◌then◌else◌}
 use Rattle.byteorder.specs.Endian.{little_number}
 use Rattle.iom_base.specs.declared.cause.Cause.{Cause}
 use Rattle.iom_base.specs.declared.rights.Rights.{Rights}
@@ -25,6 +25,7 @@ use Rattle.iom_stage_walk.specs.declared.entry.Entry.TheVariants as entry
 use Rattle.iom_stage_walk.specs.Entries.{entry_read}
 use Rattle.iom_stage_walk.specs.Paths.{pages_spanned, page_in, path_of, first_widths}
 use Rattle.iom_stage_walk.specs.Second.{second_widths}
+use Rattle.iom_napot.specs.Entries.{napot_read}
 use Rattle.iom_reach.specs.Memory.{Frame, Found, Nothing, Pointer, Leaf, Format, WalkStep}
 use Rattle.iom_reach.specs.Scene.{Mapping, Stages, NoStage, FirstStage, SecondStage, BothStages, Context, Formats}
 
@@ -55,6 +56,16 @@ found_entry (entry.Leaf base rights) left = found_leaf base rights (map index_of
 
 abbrev pub entry_format : Format Mapping
 entry_format frame place left = found_entry (entry_read (word_in frame (entry_size * place))) left
+
+-- the same where walks know leaves of 64 KiB (Privileged Architecture, "Svnapot"): one stands where no step is left, in a table whose entries are of pages alone
+abbrev pub napot_format : Format Mapping
+napot_format frame place [] = found_entry (napot_read (word_in frame (entry_size * place)) place) []
+napot_format frame place (step ∷ left) = entry_format frame place (step ∷ left)
+
+-- so hardware reads an entry that knows them, or doesn't
+abbrev pub format_of : Bool → Format Mapping
+format_of false = entry_format
+format_of true = napot_format
 
 -- the steps of a walk to a page, in tables of these widths
 abbrev pub steps_along : List ℕ → ℕ → List WalkStep

@@ -19,13 +19,13 @@ use Rattle.iom_board.specs.Invariant.{BoardInvariant}
 use Rattle.iom_board.specs.declared.board.Board.{Board}
 use Rattle.iom_inflight.specs.declared.made.MadeAt.{MadeAt}
 use Rattle.iom_ledger.specs.History.{History, May}
-use Rattle.iom_reach.specs.Laws.{AddsNoWay, UsesNoMore, Permission, HasAllowedWaysAlone, IsOutOfReach}
+use Rattle.iom_reach.specs.Laws.{AddsNoWay, UsesNoMore, Permission, HasAllowedWaysAlone, IsOutOfReach, ReadsMore}
 use Rattle.iom_reach.specs.Memory.{Tables, Ends}
 use Rattle.iom_reach.specs.Transitions.{Transition, ComeInTurn}
 use Rattle.iom_reach.specs.Safe.{IsSafe, AreTimely}
 use Rattle.iom_reach.specs.Scene.{Mapping, Context, At}
 use Rattle.iom_reach.specs.Ways.{LeadsToMapping, Way}
-use Rattle.iom_hardware_ways.specs.Formats.{steps_along, steps_of, context_of, formats}
+use Rattle.iom_hardware_ways.specs.Formats.{entry_format, format_of, steps_along, steps_of, context_of, formats}
 use Rattle.iom_hardware_ways.specs.Scenes.{directory_by, mapping_from, scene_of}
 use Rattle.iom_hardware_ways.specs.Calls.{HardwareCall, CallEffect, HarmlessEffect, IsMadeHarmlessly, DoInTurn}
 
@@ -95,6 +95,10 @@ abbrev pub DirectoriesAreFound : Type 0
 DirectoriesAreFound = (memory : List (List ℕ)) (ddtp : DirectoryPointer) (id : ℕ) (tables : Tables) (context : Context) → directory_by ddtp.mode ddtp.ppn ≡ At tables
     → Ends formats.context (slice_get memory) tables.root (steps_of tables.levels id) context
     → (found : DeviceContext) × FindsContext memory ddtp id found × (context_of found ≡ context)
+
+-- where walks know leaves of 64 KiB, they find all that they find where they don't, and such a leaf where nothing was found
+abbrev pub NapotReadsMore : Type 0
+NapotReadsMore = (napot : Bool) → ReadsMore entry_format (format_of napot)
 
 -- THE CALLS
 

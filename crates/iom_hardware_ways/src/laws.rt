@@ -1,5 +1,5 @@
 //! What is proved of hardware and the ways that devices have in it.
-ghost use Rattle.iom_hardware_ways.specs.Laws.{FirstStagesLead, SecondStagesLead, BothStagesLead, FirstStagesAreReached, SecondStagesAreReached, SizesHaveIndices, DirectoriesLead, DirectoriesAreFound, CallsAreTransitions, CallsAddNoWay, MadeAccessesHadWays, QuietStaysQuiet, GoodClaimsHold, FreeStaysFree, BeginsSafe};
+ghost use Rattle.iom_hardware_ways.specs.Laws.{FirstStagesLead, SecondStagesLead, BothStagesLead, FirstStagesAreReached, SecondStagesAreReached, SizesHaveIndices, DirectoriesLead, DirectoriesAreFound, NapotReadsMore, CallsAreTransitions, CallsAddNoWay, MadeAccessesHadWays, QuietStaysQuiet, GoodClaimsHold, FreeStaysFree, BeginsSafe};
 
 /// What the hardware's walks of tables (RISC-V Privileged Architecture, "Sv39", "Sv48", "Two-Stage Address Translation") and
 /// of the device directory (IOMMU specification, section 2.3.1) reach is what walks by its formats lead to; and but for
@@ -13,6 +13,12 @@ pub fn walk_law()
     ensures indices { SizesHaveIndices }
     ensures directory { DirectoriesLead }
     ensures directory_back { DirectoriesAreFound }
+{}
+
+/// A walk that knows leaves of 64 KiB (RISC-V Privileged Architecture, "Svnapot") finds whatever one finds that
+/// doesn't, and such a leaf where that one faults. So it reads the same tables.
+pub fn napot_law()
+    ensures { NapotReadsMore }
 {}
 
 /// Each call of hardware is a list of the transitions of which the facts on ways speak.

@@ -1,5 +1,7 @@
 -- The table at which the walk of a request begins: a walk of the address space may begin there.
-use Rattle.std.proofs.Common.{◌≡◌, ◌⊎◌, inl, inr, ℕ, ◌+◌, ◌*◌, ◌^◌, ◌<◌, List, [], ◌∷◌, Bool, true, false, nat_lt, replicate, Option, None, Some, option_map, refl, ap, subst, arith}
+use Rattle.std.proofs.Common.{◌≡◌, ◌⊎◌, inl, inr, ℕ, ◌+◌, ◌*◌, ◌/◌, ◌%◌, ◌^◌, ◌<◌, List, [], ◌∷◌, map, Bool, true, false, nat_lt, replicate, Option, None, Some, option_map, refl, sym, ap, subst, arith}
+use Rattle.std.specs.Prelude.{IfSome, IfNone}
+use Rattle.std.proofs.lemmas.List.{length-replicate}
 use Rattle.std.proofs.lemmas.Option.{cond_some, none-some, same_Some}
 use Rattle.iom_base.specs.Sizes.{levels_of}
 use Rattle.iom_base.specs.Tables.{table_entries}
@@ -15,27 +17,30 @@ use Rattle.iom_device_dir.specs.declared.stages.FirstStage.TheVariants as first
 use Rattle.iom_device_dir.specs.declared.stages.SecondStage.{SecondStage}
 use Rattle.iom_device_dir.specs.declared.stages.SecondStage.TheVariants as second
 use Rattle.iom_device_dir.specs.declared.values.GuestRoot.{GuestRoot}
-use Rattle.iom_hardware_ways.specs.Formats.{context_of, stages_in, steps_along, steps_in}
+use Rattle.iom_hardware_ways.specs.Formats.{context_of, stages_in, step_at, steps_along, steps_in}
 use Rattle.iom_hardware_ways.specs.Scenes.{ats_kind}
 use Rattle.iom_iommu.specs.Stages.{space_through}
 use Rattle.iom_pointer_ways.specs.Scenes.{pointed_scene}
+use Rattle.iom_pointers.specs.Walks.{LeadsNowhere, LeadsTo, steps_in as steps_in_hand}
 use Rattle.iom_pointers.specs.declared.pointer.Pointer.{Pointer}
 use Rattle.iom_reach.specs.Memory.{Tables}
 use Rattle.iom_reach.specs.Scene.{Stages, FirstStage as InFirst, SecondStage as InSecond}
 use Rattle.iom_reach.specs.Ways.{AtRoot, MayFind, WalkBegins, space_of, tables_of}
 use Rattle.iom_stepped_requests.specs.declared.request.Request.{Request}
-use Rattle.iom_stepped_walk.specs.Indices.{width_of}
+use Rattle.iom_stepped_walk.specs.Indices.{indices_below, width_of}
 use Rattle.iom_stepped_walk.specs.declared.hand.TableInHand.{TableInHand}
 use Rattle.iom_stepped_ways.specs.Scenes.{address_space}
 use Rattle.iom_tlb.specs.declared.space.Space.{Space}
 use Rattle.iom_tlb.specs.declared.space.Space.TheVariants as space
+use Rattle.iom_tlb.specs.declared.trans_cache.Translation.{Translation}
 use Rattle.iom_walk_loads.specs.Tables.{is_canonical}
 use Rattle.iom_walk_stops.specs.Stages.{page_of, stages_of}
 use Rattle.iom_way_survey.proofs.BackLemmas.{may_find}
 use Rattle.iom_way_survey.proofs.BesideLemmas.{no_walks}
 use Rattle.iom_way_survey.specs.Found.{cached_found, stored_found}
+use Rattle.iom_pointed_board.proofs.WalkedLemmas.{one_walked}
 use Rattle.iom_pointed_board.specs.Roots.{cached_or, hand_in, root_by}
-use Rattle.iom_pointed_board.specs.Starts.{Walks}
+use Rattle.iom_pointed_board.specs.Starts.{IsFoundFromRoot, Walks}
 
 -- THE ROOT OF A CONTEXT'S TABLES
 
@@ -92,23 +97,42 @@ one_of_both : (cached stored : Option DeviceContext) (context : DeviceContext) �
 one_of_both None stored context is = inr is
 one_of_both (Some own) stored context is = inl is
 
-found_context : (trusted : ℕ → Bool) (parts : BoardParts) (pointers : List Pointer) (id : ℕ) (kind : DeviceKind) (context : DeviceContext)
+found_context : (napot : Bool) (trusted : ℕ → Bool) (parts : BoardParts) (pointers : List Pointer) (id : ℕ) (kind : DeviceKind) (context : DeviceContext)
     → kind_in parts.devices id ≡ Some kind → cached_or (cached_found parts id) (stored_found parts id) ≡ Some context
-    → MayFind (pointed_scene trusted parts pointers) id (context_of context)
-found_context trusted parts pointers id kind context plugged found =
+    → MayFind (pointed_scene napot trusted parts pointers) id (context_of context)
+found_context napot trusted parts pointers id kind context plugged found =
     -- among requests of which none is under way
     may_find trusted parts [] no_walks id context (ats_kind kind, ap (option_map ats_kind) plugged)
     (inl (one_of_both (cached_found parts id) (stored_found parts id) context found))
 
-pub root_begins : (trusted : ℕ → Bool) (parts : BoardParts) (pointers : List Pointer) (request : Request) (own : Space) (root : TableInHand) (kind : DeviceKind)
+pub root_begins : (napot : Bool) (trusted : ℕ → Bool) (parts : BoardParts) (pointers : List Pointer) (request : Request) (own : Space) (root : TableInHand) (kind : DeviceKind)
     → kind_in parts.devices request.device ≡ Some kind → Walks parts request own root
-    → WalkBegins (pointed_scene trusted parts pointers) (address_space own) root.table.number
+    → WalkBegins (pointed_scene napot trusted parts pointers) (address_space own) root.table.number
     (steps_along (width_of root.is_wide ∷ replicate root.level table_entries))
-root_begins trusted parts pointers request own root kind plugged walks =
+root_begins napot trusted parts pointers request own root kind plugged walks =
     let of = root_of_walk parts request own root walks in
-    AtRoot request.device (context_of walks.context) of.tables (found_context trusted parts pointers request.device kind walks.context plugged walks.found)
+    AtRoot request.device (context_of walks.context) of.tables (found_context napot trusted parts pointers request.device kind walks.context plugged walks.found)
     of.space of.decide of.table of.steps
+
+-- the steps from there to the page
+pub root_steps : (root : TableInHand) → steps_in_hand root ≡ steps_along (width_of root.is_wide ∷ replicate root.level table_entries) root.page
+root_steps root =
+    ap (λ n. map step_at (root.page / table_entries ^ n % width_of root.is_wide ∷ indices_below root.level root.page))
+    (sym (length-replicate {A = ℕ} root.level table_entries))
 
 -- the root's level is one that tables have
 pub root_is_low : (parts : BoardParts) (request : Request) (own : Space) (root : TableInHand) → Walks parts request own root → root.level < 4
 root_is_low parts request own root walks = (root_of_walk parts request own root walks).low
+
+-- WHAT A REQUEST FINDS FROM THE ROOT
+
+pub found_by : (parts : BoardParts) (request : Request) (own : Space) (root : TableInHand) → Walks parts request own root → (found : Option Translation)
+    → IfSome found (LeadsTo true parts.memory root request.asked.kind) → IfNone found (LeadsNowhere true parts.memory root request.asked.kind)
+    → IsFoundFromRoot parts request found
+found_by parts request own root walks None leads nowhere = λ other another also.
+    subst (λ (hand : TableInHand). LeadsNowhere true parts.memory hand request.asked.kind) (one_walked parts request own other root another walks also).1 nowhere
+found_by parts request own root walks (Some translation) leads nowhere = (own, root, walks, leads)
+
+pub found_none : (parts : BoardParts) (request : Request) (found : Option Translation) → found ≡ None → ((own : Space) (root : TableInHand) → ¬ Walks parts request own root)
+    → IsFoundFromRoot parts request found
+found_none parts request found is no_walk = subst (IsFoundFromRoot parts request) (sym is) (λ own root walks. absurd (no_walk own root walks))

@@ -1,3 +1,4 @@
 pub mod CachedLemmas
 pub mod BeginLemmas
 pub mod AheadLemmas
+pub mod WalkedLemmas

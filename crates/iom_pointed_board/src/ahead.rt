@@ -6,7 +6,7 @@ ghost use Rattle.iom_pointed_board.specs.Starts.{KeepsFound, WalksAhead};
 
 use crate::start::start_of;
 use iom_board::Board;
-use iom_pointers::Pointers;
+use iom_pointers::{Features, Pointers};
 use iom_stepped_requests::Request;
 use iom_tlb::{Space, Translation};
 
@@ -24,17 +24,25 @@ fn keep_found(hardware: &mut Board, found: Option<Translation>, space: Space, pa
     }
 }
 
-/// Walks a request ahead, of a device that is to be served next: what is found from a pointer is cached, and the pointers are
-/// kept by which the walk passes. Nothing else changes, and nothing at all where the request doesn't walk.
-pub fn walk_ahead(hardware: &mut Board, pointers: &mut Pointers, request: Request)
+/// Walks a request ahead, of a device that is to be served next: what is found from a pointer is cached, or from the root
+/// where walks know leaves of 64 KiB; and where hardware caches pointers those are kept by which the walk passes. Nothing
+/// else changes, and nothing at all where the request doesn't walk.
+pub fn walk_ahead(
+    hardware: &mut Board,
+    features: Features,
+    pointers: &mut Pointers,
+    request: Request,
+)
     requires invariants { BoardInvariant (board_parts hardware.old) hardware.old.events }
-    ensures ahead { WalksAhead (board_parts hardware.old) pointers.old request (board_parts hardware.new) pointers.new }
+    ensures ahead { WalksAhead features (board_parts hardware.old) pointers.old request (board_parts hardware.new) pointers.new }
     ensures invariants { BoardInvariant (board_parts hardware.new) hardware.new.events }
     ensures disks { disks_at_hand hardware.new ≡ disks_at_hand hardware.old }
     ensures events { hardware.new.events ≡ hardware.old.events }
 {
-    if let Some(start) = start_of(hardware, pointers, request) {
+    if let Some(start) = start_of(hardware, features.napot, pointers, request) {
         keep_found(hardware, start.found, start.space, start.hand.page);
-        pointers.follow(&hardware.memory, start.space, start.hand);
+        if features.nonleaf {
+            pointers.follow(&hardware.memory, start.space, start.hand);
+        }
     }
 }

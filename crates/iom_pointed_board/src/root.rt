@@ -1,5 +1,5 @@
 // The root of the tables that a request walks.
-ghost use Rattle.std.specs.Prelude.{◌≡◌, ◌<◌, ◌+◌, ◌*◌, ◌^◌, nat_lt, Some};
+ghost use Rattle.std.specs.Prelude.{◌≡◌, ◌<◌, ◌+◌, ◌*◌, ◌^◌, nat_lt, Some, IfSome};
 ghost use Rattle.iom_base.specs.Sizes.{levels_of};
 ghost use Rattle.iom_board.specs.BoardParts.{board_parts};
 ghost use Rattle.iom_iommu.specs.Stages.{space_through};
@@ -53,7 +53,8 @@ fn is_guest_physical(size: Size, address: u64) -> bool
 
 /// The table of a root of this size, for the page of an address.
 fn root_hand(size: Size, table: Ppn, is_wide: bool, address: u64) -> TableInHand
-    ensures { result ≡ hand_in table (levels_of size) is_wide address }
+    ensures hand { result ≡ hand_in table (levels_of size) is_wide address }
+    ensures low { result.level < 4 }
 {
     TableInHand {
         table,
@@ -66,7 +67,8 @@ fn root_hand(size: Size, table: Ppn, is_wide: bool, address: u64) -> TableInHand
 /// The root's table, of the one stage that translates. None in both stages, and where the address has bits that the stage
 /// doesn't translate.
 pub(crate) fn root_of(stages: Stages, address: u64) -> Option<TableInHand>
-    ensures { result ≡ root_of stages address }
+    ensures root { result ≡ root_of stages address }
+    ensures low { IfSome result (λ root. root.level < 4) }
 {
     match stages {
         Stages::First { size, root } if is_canonical(size, address) => {

@@ -8,13 +8,15 @@ use Rattle.iom_board.specs.BoardParts.{BoardParts}
 use Rattle.iom_pointers.specs.Pointers.{FollowsEntry, FollowsFrom, IsPointerTo, has_key_of, others_of, pointer_limit, with_pointer, with_room}
 use Rattle.iom_pointers.specs.declared.pointer.Pointer.{Pointer as Kept}
 use Rattle.iom_reach.proofs.WalkLemmas.{passes_here}
+use Rattle.iom_reach.proofs.WiderLemmas.{passes_wider}
 use Rattle.iom_reach.specs.Memory.{Found, Nothing, Pointer, Leaf, Format, Goes, Memory, Passes, WalkStep}
 use Rattle.iom_reach.specs.Transitions.{IsContinued}
 use Rattle.iom_reach.specs.Ways.{WalkBegins}
 use Rattle.iom_hardware_ways.proofs.FormatLemmas.{entry_there}
 use Rattle.iom_hardware_ways.proofs.ListLemmas.{filter_among, in_none}
+use Rattle.iom_hardware_ways.proofs.NapotLemmas.{reads_more}
 use Rattle.iom_hardware_ways.proofs.PageIndices.{three}
-use Rattle.iom_hardware_ways.specs.Formats.{entry_format, found_entry, step_at, steps_along}
+use Rattle.iom_hardware_ways.specs.Formats.{entry_format, format_of, found_entry, step_at, steps_along}
 use Rattle.iom_stage_walk.specs.Entries.{entries, slot}
 use Rattle.iom_stage_walk.specs.Paths.{path_of}
 use Rattle.iom_stage_walk.specs.declared.entry.Entry.{Entry}
@@ -105,11 +107,16 @@ entry_cases entry.Invalid On old new same = inl same
 entry_cases (entry.Pointer next) On old new on = inr (next, refl, on)
 entry_cases (entry.Leaf base rights) On old new same = inl same
 
-module _ (trusted : ℕ → Bool) (parts : BoardParts) (pointers : List Kept) (space : Space) (start : ℕ) (steps_to : ℕ → List WalkStep)
-    (begins : WalkBegins (pointed_scene trusted parts pointers) (address_space space) start steps_to) where
+module _ (napot : Bool) (trusted : ℕ → Bool) (parts : BoardParts) (pointers : List Kept) (space : Space) (start : ℕ) (steps_to : ℕ → List WalkStep)
+    (begins : WalkBegins (pointed_scene napot trusted parts pointers) (address_space space) start steps_to) where
   -- a walk passes the table with these steps left
   abbrev PassesBy : ℕ → List WalkStep → Type 0
   PassesBy table rest = (to : ℕ) × Passes entry_format (slice_get parts.memory) start (steps_to to) table rest
+
+  -- so does one that knows leaves of 64 KiB, or doesn't
+  known : (table : ℕ) (rest : List WalkStep) → PassesBy table rest → (to : ℕ) × Passes (format_of napot) (slice_get parts.memory) start (steps_to to) table rest
+  known table rest (to, passes) =
+      (to, passes_wider entry_format (format_of napot) (reads_more napot) (slice_get parts.memory) start (steps_to to) table rest passes)
 
   -- for each page some walk passes the table, with the steps left that the page has there
   abbrev LeadsBy : Bool → ℕ → ℕ → Type 0
@@ -129,35 +136,36 @@ module _ (trusted : ℕ → Bool) (parts : BoardParts) (pointers : List Kept) (s
 
   -- so a walk passes by a pointer to such a table
   passed_by : (page level table : ℕ) (pointer : Kept) → IsPointerTo space page level table pointer → LeadsBy false level table
-      → IsContinued (pointed_scene trusted parts pointers) (walk_from pointer)
+      → IsContinued (pointed_scene napot trusted parts pointers) (walk_from pointer)
   passed_by page level table pointer is leads = (
     start,
     steps_to,
-    subst (λ s. WalkBegins (pointed_scene trusted parts pointers) (address_space s) start steps_to) (sym is.space_is) begins,
+    subst (λ s. WalkBegins (pointed_scene napot trusted parts pointers) (address_space s) start steps_to) (sym is.space_is) begins,
     (λ device own. absurd (none-some device own)),
-    (λ other. subst (λ t. PassesBy t (steps_along (widths_below pointer.level) other)) (sym is.table_is)
-        (subst (λ l. PassesBy table (steps_along (widths_below l) other)) (sym is.level_is) (leads other))),
+    (λ other. known pointer.table.number (steps_along (widths_below pointer.level) other)
+        (subst (λ t. PassesBy t (steps_along (widths_below pointer.level) other)) (sym is.table_is)
+        (subst (λ l. PassesBy table (steps_along (widths_below l) other)) (sym is.level_is) (leads other)))),
   )
 
-  followed : (level page : ℕ) (is_wide : Bool) (table : ℕ) (kept new : List Kept) → level < 4 → LeadsBy is_wide level table → ArePassed trusted parts pointers kept
-      → FollowsFrom parts.memory space page level is_wide table kept new → ArePassed trusted parts pointers new
-  followed zero page is_wide table kept new small leads are same = subst (ArePassed trusted parts pointers) (sym same) are
+  followed : (level page : ℕ) (is_wide : Bool) (table : ℕ) (kept new : List Kept) → level < 4 → LeadsBy is_wide level table → ArePassed napot trusted parts pointers kept
+      → FollowsFrom parts.memory space page level is_wide table kept new → ArePassed napot trusted parts pointers new
+  followed zero page is_wide table kept new small leads are same = subst (ArePassed napot trusted parts pointers) (sym same) are
   followed (suc below) page is_wide table kept new small leads are follows =
       elim (entry_cases (entries parts.memory (slot table (index_at is_wide (suc below) page)))
       (λ next. (pointer : Kept) × IsPointerTo space page below next pointer × FollowsFrom parts.memory space page below false next (with_pointer pointer kept) new)
       kept new follows) [
-        | inl same ↦ subst (ArePassed trusted parts pointers) (sym same) are
+        | inl same ↦ subst (ArePassed napot trusted parts pointers) (sym same) are
         | inr (next, stands, (pointer, is, later)) ↦
             let lower = one_lower is_wide below table page next (omega (arith, small)) stands leads in
             followed below page false next (with_pointer pointer kept) new (omega (arith, small)) lower
             (λ other there. elim (kept_cases pointer kept other there) [
               | inl old ↦ are other old
-              | inr same ↦ inr (subst (λ p. IsContinued (pointed_scene trusted parts pointers) (walk_from p)) same (passed_by page below next pointer is lower))
+              | inr same ↦ inr (subst (λ p. IsContinued (pointed_scene napot trusted parts pointers) (walk_from p)) same (passed_by page below next pointer is lower))
             ]) later
       ]
 
 pub followed_are_passed : FollowedArePassed
-followed_are_passed trusted parts pointers new_pointers space hand small begins follows =
+followed_are_passed napot trusted parts pointers new_pointers space hand small begins follows =
     let steps_to = steps_along (widths_from hand.is_wide hand.level) in
-    followed trusted parts pointers space hand.table.number steps_to begins hand.level hand.page hand.is_wide hand.table.number pointers new_pointers small
+    followed napot trusted parts pointers space hand.table.number steps_to begins hand.level hand.page hand.is_wide hand.table.number pointers new_pointers small
     (λ page. (page, passes_here entry_format (slice_get parts.memory) hand.table.number (steps_to page))) (λ pointer there. inl there) follows

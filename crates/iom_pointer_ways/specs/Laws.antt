@@ -51,51 +51,51 @@ PointersAddTheirTables = (scene : HardwareScene) (pointers : List Pointer) (fram
 
 -- WHAT IS FOLLOWED IS PASSED: from a table at which a walk of the space may begin, each pointer that is kept was kept before, or such a walk passes by it
 abbrev pub FollowedArePassed : Type 0
-FollowedArePassed = (trusted : ℕ → Bool) (parts : BoardParts) (pointers new_pointers : List Pointer) (space : Space) (hand : TableInHand) → hand.level < 4
-    → WalkBegins (pointed_scene trusted parts pointers) (address_space space) hand.table.number
+FollowedArePassed = (napot : Bool) (trusted : ℕ → Bool) (parts : BoardParts) (pointers new_pointers : List Pointer) (space : Space) (hand : TableInHand) → hand.level < 4
+    → WalkBegins (pointed_scene napot trusted parts pointers) (address_space space) hand.table.number
     (steps_along (width_of hand.is_wide ∷ replicate hand.level table_entries))
-    → Follows parts.memory space hand pointers new_pointers → ArePassed trusted parts pointers new_pointers
+    → Follows parts.memory space hand pointers new_pointers → ArePassed napot trusted parts pointers new_pointers
 
 -- THE CALLS
 
 -- each call is a list of transitions
 abbrev pub PointedCallsAreTransitions : Type 0
-PointedCallsAreTransitions = (trusted : ℕ → Bool) (call : PointedCall) (events : ℕ) (old new : BoardParts) (pointers new_pointers : List Pointer) → BoardInvariant old events
-    → PointedEffect trusted call old pointers new new_pointers → IsByHardware trusted call
-    → (transitions : List Transition) × ComeInTurn (pointed_scene trusted old pointers) transitions (pointed_scene trusted new new_pointers)
+PointedCallsAreTransitions = (napot : Bool) (trusted : ℕ → Bool) (call : PointedCall) (events : ℕ) (old new : BoardParts) (pointers new_pointers : List Pointer) → BoardInvariant old events
+    → PointedEffect napot trusted call old pointers new new_pointers → IsByHardware trusted call
+    → (transitions : List Transition) × ComeInTurn (pointed_scene napot trusted old pointers) transitions (pointed_scene napot trusted new new_pointers)
 
 -- NO CALL ADDS A WAY: where hardware and devices can't write what hardware reads, also by a pointer, no list of calls does
 abbrev pub PointedCallsAddNoWay : Type 0
-PointedCallsAddNoWay = (trusted : ℕ → Bool) (calls : List PointedCall) (events : ℕ) (old new : BoardParts) (pointers new_pointers : List Pointer)
-    → IsSafe (pointed_scene trusted old pointers) → AreTimely (pointed_scene trusted old pointers) → DoPointedInTurn trusted events old pointers calls new new_pointers
-    → AddsNoWay (pointed_scene trusted old pointers) (pointed_scene trusted new new_pointers) × UsesNoMore (pointed_scene trusted old pointers) (pointed_scene trusted new new_pointers)
-    × IsSafe (pointed_scene trusted new new_pointers) × AreTimely (pointed_scene trusted new new_pointers)
+PointedCallsAddNoWay = (napot : Bool) (trusted : ℕ → Bool) (calls : List PointedCall) (events : ℕ) (old new : BoardParts) (pointers new_pointers : List Pointer)
+    → IsSafe (pointed_scene napot trusted old pointers) → AreTimely (pointed_scene napot trusted old pointers) → DoPointedInTurn napot trusted events old pointers calls new new_pointers
+    → AddsNoWay (pointed_scene napot trusted old pointers) (pointed_scene napot trusted new new_pointers) × UsesNoMore (pointed_scene napot trusted old pointers) (pointed_scene napot trusted new new_pointers)
+    × IsSafe (pointed_scene napot trusted new new_pointers) × AreTimely (pointed_scene napot trusted new new_pointers)
 
 -- these calls come one after another from there, and then the device makes this access
-pub record MakesAfter (trusted : ℕ → Bool) (parts : BoardParts) (pointers : List Pointer) (id : ℕ) (made : MadeAt) : Type 0 where
+pub record MakesAfter (napot : Bool) (trusted : ℕ → Bool) (parts : BoardParts) (pointers : List Pointer) (id : ℕ) (made : MadeAt) : Type 0 where
   pub calls : List PointedCall
   pub events : ℕ
   pub between : BoardParts
   pub between_pointers : List Pointer
-  pub turns : DoPointedInTurn trusted events parts pointers calls between between_pointers
+  pub turns : DoPointedInTurn napot trusted events parts pointers calls between between_pointers
   pub new : BoardParts
   pub makes : CommitsOldestAccess between id (Ok (Some made)) new
 
 -- WHAT WAS WITHDRAWN IS OUT OF REACH: a device without a way to a frame, but those that it may take, makes no other access there
 abbrev pub PointedQuietStaysQuiet : Type 0
-PointedQuietStaysQuiet = (trusted : ℕ → Bool) (may : Permission) (parts : BoardParts) (pointers : List Pointer) (id : ℕ) (made : MadeAt)
-    → IsSafe (pointed_scene trusted parts pointers) → AreTimely (pointed_scene trusted parts pointers)
-    → HasAllowedWaysAlone may (pointed_scene trusted parts pointers) id made.frame → MakesAfter trusted parts pointers id made → may id made.frame made.kind ≡ true
+PointedQuietStaysQuiet = (napot : Bool) (trusted : ℕ → Bool) (may : Permission) (parts : BoardParts) (pointers : List Pointer) (id : ℕ) (made : MadeAt)
+    → IsSafe (pointed_scene napot trusted parts pointers) → AreTimely (pointed_scene napot trusted parts pointers)
+    → HasAllowedWaysAlone may (pointed_scene napot trusted parts pointers) id made.frame → MakesAfter napot trusted parts pointers id made → may id made.frame made.kind ≡ true
 
 -- A CLAIM THAT IS GOOD STAYS TRUE
 abbrev pub PointedGoodClaimsHold : Type 0
-PointedGoodClaimsHold = (trusted : ℕ → Bool) (claimed : History) (parts : BoardParts) (pointers : List Pointer) (id : ℕ) (made : MadeAt)
-    → IsSafe (pointed_scene trusted parts pointers) → AreTimely (pointed_scene trusted parts pointers)
-    → ((kind : AccessKind) → Way (pointed_scene trusted parts pointers) id made.frame kind → May claimed id made.frame kind)
-    → MakesAfter trusted parts pointers id made → May claimed id made.frame made.kind
+PointedGoodClaimsHold = (napot : Bool) (trusted : ℕ → Bool) (claimed : History) (parts : BoardParts) (pointers : List Pointer) (id : ℕ) (made : MadeAt)
+    → IsSafe (pointed_scene napot trusted parts pointers) → AreTimely (pointed_scene napot trusted parts pointers)
+    → ((kind : AccessKind) → Way (pointed_scene napot trusted parts pointers) id made.frame kind → May claimed id made.frame kind)
+    → MakesAfter napot trusted parts pointers id made → May claimed id made.frame made.kind
 
 -- NOBODY USES THE FRAME: where no device has a way to it, no access is made there
 abbrev pub PointedFreeStaysFree : Type 0
-PointedFreeStaysFree = (trusted : ℕ → Bool) (parts : BoardParts) (pointers : List Pointer) (id : ℕ) (made : MadeAt)
-    → IsSafe (pointed_scene trusted parts pointers) → AreTimely (pointed_scene trusted parts pointers)
-    → IsOutOfReach (pointed_scene trusted parts pointers) made.frame → ¬ MakesAfter trusted parts pointers id made
+PointedFreeStaysFree = (napot : Bool) (trusted : ℕ → Bool) (parts : BoardParts) (pointers : List Pointer) (id : ℕ) (made : MadeAt)
+    → IsSafe (pointed_scene napot trusted parts pointers) → AreTimely (pointed_scene napot trusted parts pointers)
+    → IsOutOfReach (pointed_scene napot trusted parts pointers) made.frame → ¬ MakesAfter napot trusted parts pointers id made

@@ -2,10 +2,10 @@
 use Rattle.std.specs.Prelude.{ℕ, suc, Bool, List, [], map, replicate, None}
 use Rattle.iom_base.specs.Tables.{table_entries}
 use Rattle.iom_board.specs.BoardParts.{BoardParts}
-use Rattle.iom_hardware_ways.specs.Formats.{steps_along}
+use Rattle.iom_hardware_ways.specs.Formats.{format_of, steps_along}
 use Rattle.iom_hardware_ways.specs.Scenes.{scene_of}
 use Rattle.iom_pointers.specs.declared.pointer.Pointer.{Pointer}
-use Rattle.iom_reach.specs.Scene.{PartialWalk, HardwareScene}
+use Rattle.iom_reach.specs.Scene.{PartialWalk, HardwareScene, reading}
 use Rattle.iom_stepped_ways.specs.Scenes.{Added, address_space, with_added}
 
 -- the widths of a table of this level and of those below it
@@ -24,6 +24,6 @@ walk_from pointer = record {
 abbrev pub walks_from : List Pointer → Added
 walks_from pointers = record { partial_walks = map walk_from pointers; directory_walks = []; let_through = λ device. [] }
 
--- THE SCENE of hardware that has these pointers
-abbrev pub pointed_scene : (ℕ → Bool) → BoardParts → List Pointer → HardwareScene
-pointed_scene trusted parts pointers = with_added (scene_of trusted parts) (walks_from pointers)
+-- THE SCENE of hardware that has these pointers, and of which walks know leaves of 64 KiB, or don't
+abbrev pub pointed_scene : Bool → (ℕ → Bool) → BoardParts → List Pointer → HardwareScene
+pointed_scene napot trusted parts pointers = reading (format_of napot) (with_added (scene_of trusted parts) (walks_from pointers))

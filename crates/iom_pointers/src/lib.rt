@@ -8,13 +8,16 @@
 //! walk from there to its leaf, and [`Pointers::forget`] is for a command. `specs/Pointers.antt` says what each does to the
 //! list, `specs/Walks.antt` what a walk finds, in the words of `iom_reach` and by the formats of `iom_hardware_ways`.
 //!
-//! Tables of a first stage alone and of a second alone are meant, which one table at a time leads to the page.
+//! Tables of a first stage alone and of a second alone are meant, which one table at a time leads to the page, and none of
+//! both stages. [`lead`] knows leaves of 64 KiB (Svnapot) where it is told so; [`Features`] is what hardware has of these.
 #![tactic(auto)]
 
+mod features;
 mod pointer;
 mod pointers;
 mod walk;
 
+pub use features::Features;
 pub use pointer::Pointer;
 pub use pointers::{MAX_POINTERS, Pointers};
 pub use walk::lead;

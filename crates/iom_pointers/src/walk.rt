@@ -4,8 +4,9 @@ ghost use Rattle.iom_pointers.specs.Walks.{IsLeafFor, LeadsNowhere, LeadsTo};
 ghost use Rattle.iom_stepped_walk.specs.Indices.{index_at};
 
 use iom_base::{AccessKind, Ppn, Rights, TABLE_ENTRIES};
+use iom_napot::entry_in;
 use iom_phys_mem::{Bytes, Memory};
-use iom_stage_walk::{Entry, entry_at};
+use iom_stage_walk::Entry;
 use iom_stepped_walk::TableInHand;
 use iom_table_survey::span;
 use iom_tlb::Translation;
@@ -24,19 +25,20 @@ pub(crate) fn index_in(hand: TableInHand) -> u16
     (hand.page / span(hand.level) % entries) as u16
 }
 
-/// The translation that a leaf in the table gives the page. None where it isn't aligned to what it spans, lacks the kind of
+/// The translation that a leaf of this order in the table gives the page. None where it isn't aligned to what it spans, lacks the kind of
 /// access, or maps a page outside memory.
 fn leaf_of(
     hand: TableInHand,
     base: u64,
     rights: Rights,
+    order: u16,
     kind: AccessKind,
     frames: u32,
 ) -> Option<Translation>
     requires level { hand.level < 4 }
     requires base { base < 2 ^ 44 }
-    ensures some { IfSome result (IsLeafFor hand base rights kind frames) }
-    ensures none { IfNone result ((translation : Translation) → ¬ IsLeafFor hand base rights kind frames translation) }
+    ensures some { IfSome result (IsLeafFor hand base rights order kind frames) }
+    ensures none { IfNone result ((translation : Translation) → ¬ IsLeafFor hand base rights order kind frames translation) }
 {
     let pages = span(hand.level);
     let frame = base + hand.page % pages;
@@ -46,20 +48,33 @@ fn leaf_of(
     Some(Translation {
         frame: frame as u32,
         rights,
-        order: 9 * hand.level as u16,
+        order,
     })
 }
 
-/// The translation to which a walk leads that has this table in hand, for an access of this kind. None where it ends with a
-/// fault. At most one load a level.
-pub fn lead(memory: &Memory, hand: TableInHand, kind: AccessKind) -> Option<Translation>
+/// The translation to which a walk leads that has this table in hand, for an access of this kind, where walks know leaves
+/// of 64 KiB, or don't. None where it ends with a fault. At most one load a level.
+pub fn lead(
+    memory: &Memory,
+    napot: bool,
+    hand: TableInHand,
+    kind: AccessKind,
+) -> Option<Translation>
     requires { hand.level < 4 }
-    ensures some { IfSome result (LeadsTo memory.now hand kind) }
-    ensures none { IfNone result (LeadsNowhere memory.now hand kind) }
+    ensures some { IfSome result (LeadsTo napot memory.now hand kind) }
+    ensures none { IfNone result (LeadsNowhere napot memory.now hand kind) }
 {
-    let index = index_in(hand);
-    match entry_at(memory, hand.table.number(), index) {
-        Entry::Leaf(base, rights) => leaf_of(hand, base, rights, kind, memory.frames()),
+    let found = entry_in(
+        memory,
+        napot,
+        hand.table.number(),
+        index_in(hand),
+        hand.level,
+    );
+    match found.entry {
+        Entry::Leaf(base, rights) => {
+            leaf_of(hand, base, rights, found.order, kind, memory.frames())
+        }
         Entry::Pointer(next) => {
             if hand.level == 0 {
                 return None;
@@ -70,7 +85,7 @@ pub fn lead(memory: &Memory, hand: TableInHand, kind: AccessKind) -> Option<Tran
                 is_wide: false,
                 page: hand.page,
             };
-            lead(memory, below, kind)
+            lead(memory, napot, below, kind)
         }
         Entry::Invalid | Entry::Outside => None,
     }

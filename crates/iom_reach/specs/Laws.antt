@@ -1,7 +1,8 @@
 -- What this crate proves.
-use Rattle.std.specs.Prelude.{◌≡◌, ◌≤◌, ℕ, Bool, true, false, List, length}
+use Rattle.std.specs.Prelude.{◌≡◌, ◌≤◌, ◌⊎◌, ℕ, Bool, true, false, List, length}
 use Rattle.iom_base.specs.declared.access.AccessKind.{AccessKind}
-use Rattle.iom_reach.specs.Scene.{PendingAccess, HardwareScene}
+use Rattle.iom_reach.specs.Memory.{Frame, Found, Nothing, Leaf, Format, WalkStep}
+use Rattle.iom_reach.specs.Scene.{Mapping, PendingAccess, HardwareScene, reading}
 use Rattle.iom_reach.specs.Ways.{Way}
 use Rattle.iom_reach.specs.Safe.{IsRead, HasWord, IsSafe, AreTimely}
 use Rattle.iom_reach.specs.Transitions.{Transition, Make, ComesAbout, ComeInTurn}
@@ -61,3 +62,21 @@ abbrev pub WaysCanBeTaken : Type 0
 WaysCanBeTaken = (scene : HardwareScene) (device frame : ℕ) (kind : AccessKind) → scene.is_trusted device ≡ false → Way scene device frame kind
     → (transitions : List Transition) × (length transitions ≤ 2) × (between : HardwareScene) × (new : HardwareScene) × ComeInTurn scene transitions between
     × ComesAbout (Make device (record { frame = frame; kind = kind })) between new
+
+-- at one place the same is found, or a leaf where nothing was
+abbrev pub FindsMore : Found Mapping → Found Mapping → Type 0
+FindsMore few more = (more ≡ few) ⊎ ((few ≡ Nothing) × ((mapping : Mapping) × (more ≡ Leaf mapping)))
+
+-- HARDWARE THAT READS MORE: a format has all that the other finds, and may find a leaf where that finds nothing. So its walks read no other table
+abbrev pub ReadsMore : Format Mapping → Format Mapping → Type 0
+ReadsMore narrow wide = (frame : Frame) (place : ℕ) (left : List WalkStep) → FindsMore (narrow frame place left) (wide frame place left)
+
+-- What may occur where entries of page tables are read by the one format may occur where they are read by the other.
+abbrev pub TransitionsStay : Type 0
+TransitionsStay = (wide : Format Mapping) (transition : Transition) (old new : HardwareScene) → ReadsMore old.formats.entry wide → ComesAbout transition old new
+    → ComesAbout transition (reading wide old) (reading wide new)
+
+-- So may any of these in turn.
+abbrev pub TurnsStay : Type 0
+TurnsStay = (wide : Format Mapping) (transitions : List Transition) (old new : HardwareScene) → ReadsMore old.formats.entry wide → ComeInTurn old transitions new
+    → ComeInTurn (reading wide old) transitions (reading wide new)

@@ -141,3 +141,7 @@ pub record HardwareScene : Type 0 where
 -- something is plugged in with this id
 abbrev pub HasDevice : HardwareScene → ℕ → Type 0
 HasDevice scene device = (kind : AtsKind) × (scene.kind_of device ≡ Some kind)
+
+-- the same, where entries of page tables are read by this format
+abbrev pub reading : Format Mapping → HardwareScene → HardwareScene
+reading entry scene = record scene { formats = record scene.formats { entry = entry } }

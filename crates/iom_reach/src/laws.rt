@@ -1,5 +1,5 @@
 //! What the facts on ways give the layers above.
-ghost use Rattle.iom_reach.specs.Laws.{TransitionsAddNoWay, TurnsAddNoWay, AccessesHadWays, QuietIsTrue, FreeIsTrue, WaysCanBeTaken};
+ghost use Rattle.iom_reach.specs.Laws.{TransitionsAddNoWay, TurnsAddNoWay, AccessesHadWays, QuietIsTrue, FreeIsTrue, WaysCanBeTaken, TransitionsStay, TurnsStay};
 ghost use Rattle.iom_reach.specs.Worked.{SpacesAreShared};
 
 /// Nothing that hardware and devices do adds a way, where none of them can write what hardware reads. So a
@@ -23,4 +23,12 @@ pub fn taken_law()
 /// number.
 pub fn shared_law()
     ensures shared { SpacesAreShared }
+{}
+
+/// Hardware may find more leaves in the same tables, as one whose walks know those of 64 KiB (RISC-V Privileged
+/// Architecture, "Svnapot"): all that may occur without them may occur with them. So what is proved of calls by the
+/// one format holds by the other.
+pub fn wider_law()
+    ensures each { TransitionsStay }
+    ensures in_turn { TurnsStay }
 {}

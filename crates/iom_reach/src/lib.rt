@@ -13,4 +13,4 @@
 
 mod laws;
 
-pub use laws::{reach_law, shared_law, taken_law};
+pub use laws::{reach_law, shared_law, taken_law, wider_law};

@@ -40,12 +40,21 @@ IsPointedTo e IsOfLevel frame = (table : ℕ) × IsOfLevel table × PointsFrom e
 abbrev pub IsMappedBy : Entries → (ℕ → Type 0) → ℕ → AccessKind → ℕ → Type 0
 IsMappedBy e IsOfLevel below kind frame = (table : ℕ) × IsOfLevel table × MapsFrom e below kind table frame
 
+-- LEVELS, of which those with so many below them have these entries
+
 -- from the tables in these frames on, with so many levels, the frame is one of the tables'
-abbrev pub IsTable : Entries → (ℕ → Type 0) → ℕ → ℕ → Type 0
-IsTable e IsOfLevel zero frame = ⊥
-IsTable e IsOfLevel (suc below) frame = IsOfLevel frame ⊎ IsTable e (IsPointedTo e IsOfLevel) below frame
+abbrev pub IsTableIn : (ℕ → Entries) → (ℕ → Type 0) → ℕ → ℕ → Type 0
+IsTableIn e IsOfLevel zero frame = ⊥
+IsTableIn e IsOfLevel (suc below) frame = IsOfLevel frame ⊎ IsTableIn e (IsPointedTo (e below) IsOfLevel) below frame
 
 -- some leaf maps it, for this kind of access
+abbrev pub IsMappedIn : (ℕ → Entries) → (ℕ → Type 0) → ℕ → AccessKind → ℕ → Type 0
+IsMappedIn e IsOfLevel zero kind frame = ⊥
+IsMappedIn e IsOfLevel (suc below) kind frame = IsMappedBy (e below) IsOfLevel below kind frame ⊎ IsMappedIn e (IsPointedTo (e below) IsOfLevel) below kind frame
+
+-- the same where all levels have the same entries
+abbrev pub IsTable : Entries → (ℕ → Type 0) → ℕ → ℕ → Type 0
+IsTable e = IsTableIn (λ below. e)
+
 abbrev pub IsMapped : Entries → (ℕ → Type 0) → ℕ → AccessKind → ℕ → Type 0
-IsMapped e IsOfLevel zero kind frame = ⊥
-IsMapped e IsOfLevel (suc below) kind frame = IsMappedBy e IsOfLevel below kind frame ⊎ IsMapped e (IsPointedTo e IsOfLevel) below kind frame
+IsMapped e = IsMappedIn (λ below. e)

@@ -9,23 +9,26 @@ use Rattle.iom_base.specs.declared.device_kind.DeviceKind.{DeviceKind}
 use Rattle.iom_base.specs.declared.size.Size.TheVariants.{Sv39}
 use Rattle.iom_board.specs.BoardParts.{BoardParts}
 use Rattle.iom_device.specs.Caches.{kind_in}
+use Rattle.iom_device.specs.declared.device.Device.{Device}
 use Rattle.iom_device_dir.specs.Located.{located_by_mode}
 use Rattle.iom_device_dir.specs.Paths.{fits_directory}
 use Rattle.iom_device_dir.specs.declared.context.Context.{Context as DeviceContext}
 use Rattle.iom_hardware_ways.proofs.FormatLemmas.{located_in}
-use Rattle.iom_hardware_ways.proofs.ListLemmas.{get_contains}
+use Rattle.iom_hardware_ways.proofs.ListLemmas.{get_contains, in_none}
 use Rattle.iom_hardware_ways.proofs.PageIndices.{sizes_have_indices}
-use Rattle.iom_hardware_ways.specs.Formats.{context_of}
+use Rattle.iom_hardware_ways.proofs.NapotLemmas.{reads_more}
+use Rattle.iom_hardware_ways.specs.Formats.{context_of, entry_format, format_of, steps_in}
 use Rattle.iom_hardware_ways.specs.Laws.{AreIndices, PagesAreIndices}
 use Rattle.iom_hardware_ways.specs.Scenes.{ats_kind, cached_space, directory_by, scene_of}
 use Rattle.iom_iommu.specs.Parts.{registers_of, contexts_of}
 use Rattle.iom_pointer_ways.specs.Laws.{LeadsByPointer, PointersAddTheirTables, PointersAddTheirWays, ReadsByPointer}
 use Rattle.iom_pointer_ways.specs.Scenes.{pointed_scene, widths_below}
 use Rattle.iom_pointers.specs.declared.pointer.Pointer.{Pointer}
-use Rattle.iom_reach.specs.Memory.{Tables}
+use Rattle.iom_reach.proofs.WiderLemmas.{begins_narrower, begins_wider, ends_wider, reads_no_more, reads_wider}
+use Rattle.iom_reach.specs.Memory.{Tables, WalkStep}
 use Rattle.iom_reach.specs.Safe.{IsOfTables, IsRead}
-use Rattle.iom_reach.specs.Scene.{AddressSpace, First as InFirst, Second as InSecond, Both as InBoth, At, AtsKind, Context, HardwareScene, HasDevice}
-use Rattle.iom_reach.specs.Ways.{MayFind, Way, space_of}
+use Rattle.iom_reach.specs.Scene.{AddressSpace, First as InFirst, Second as InSecond, Both as InBoth, At, AtsKind, Context, HardwareScene, HasDevice, Mapping, reading}
+use Rattle.iom_reach.specs.Ways.{Accepted, AnyFrame, AtRoot, ByAts, ByContext, LeadsToMapping, MayFind, OnTheWalk, PartWay, ServesKind, Through, Translated, Untranslated, Way, space_of, tables_of}
 use Rattle.iom_registers.specs.Queues.{directory_root}
 use Rattle.iom_registers.specs.declared.directory.DirectoryMode.{DirectoryMode}
 use Rattle.iom_registers.specs.declared.directory.DirectoryMode.TheVariants as mode
@@ -36,18 +39,19 @@ use Rattle.iom_table_survey.specs.Rows.{frame_place, row_has}
 use Rattle.iom_tlb.specs.declared.space.Space.{Space}
 use Rattle.iom_walks.specs.Invariant.{AreWalks}
 use Rattle.iom_walks.specs.Walks.{WalkRow}
-use Rattle.iom_way_survey.specs.Along.{HasRowOfEach, HasSpace, IsMappedAlong, IsPlugged, IsReachedAlongSome, IsTableAlong, IsTableAlongSome, LooksAlong, RowGrows, RowsGrow, SharesSpace}
-use Rattle.iom_way_survey.specs.Found.{Finds, cached_found, has_directory, mode_in, space_of_context, stored_found}
-use Rattle.iom_way_survey.specs.Laws.{IsLedTo, IsReadBelow, ArePlugged}
+use Rattle.iom_way_survey.specs.Along.{HasRowOfEach, HasSpace, IsMappedAlong, IsPlugged, IsReachedAlongSome, IsReachedBeside, IsReachedFound, IsReachedOfSome, IsTableAlong, IsTableAlongSome, IsTableBeside, IsTableFound, IsTableOfSome, LooksAlong, RowGrows, RowsGrow, SharesSpace}
+use Rattle.iom_way_survey.specs.Found.{Finds, FoundLeafIn, FoundTableIn, HaveLeafIn, HaveTableIn, cached_found, has_directory, mode_in, space_of_context, stored_found}
+use Rattle.iom_way_survey.specs.Laws.{IsLedTo, IsReadBelow, ArePlugged, formats_of}
 use Rattle.iom_way_survey.specs.Surveys.{AreRowsOf, InventsNone, IsReachedAs, IsReadAs, Surveys, TellsTrust, reach_in, reaches_in_rows}
 use Rattle.iom_way_survey.specs.Walking.{found_of}
 use Rattle.iom_way_survey.specs.declared.findings.DeviceReach.{DeviceReach}
 use Rattle.iom_way_survey.specs.declared.findings.Survey.{Survey}
+use Rattle.iom_way_survey.proofs.BackLemmas.{found_with, has, leaf_leads, may_find, table_reads}
 use Rattle.iom_way_survey.proofs.BesideLemmas.{no_walks}
 use Rattle.iom_way_survey.proofs.LookLemmas.{same_place}
 use Rattle.iom_way_survey.proofs.TreeLemmas.{levels_are_walks}
 use Rattle.iom_way_survey.proofs.UnderWayLemmas.{space_named_back}
-use Rattle.iom_way_survey.proofs.WayLemmas.{contains_get, device_place, found_in, none_is_some, plugged, space_named, spaces_by}
+use Rattle.iom_way_survey.proofs.WayLemmas.{contains_get, device_place, found_in, leads_leaf, none_is_some, plugged, space_named, spaces_by}
 
 -- TABLES OF ONE FRAME EACH: the pages of a table of level 0, 1 or 2 are its indices
 
@@ -73,21 +77,21 @@ tables_have_indices (suc (suc zero)) low = (sizes_have_indices Sv39).0
 tables_have_indices (suc (suc (suc more))) low = absurd (omega (arith, low))
 
 -- so what is looked at along a pointer is what walks from there read, and lead to
-module _ (memory : List (List ℕ)) (pointer : Pointer) where
+module _ (napot : Bool) (memory : List (List ℕ)) (pointer : Pointer) where
   abbrev widths : List ℕ
   widths = widths_below pointer.level
 
-  led_along : (kind : AccessKind) (frame : ℕ) → IsMappedAlong memory pointer kind frame → IsLedTo memory pointer.table.number widths kind frame
-  led_along kind frame mapped = ((levels_are_walks memory pointer.table.number 1 pointer.level (tables_have_indices pointer.level pointer.in_range)).1 kind frame).0 mapped
+  led_along : (kind : AccessKind) (frame : ℕ) → IsMappedAlong napot memory pointer kind frame → IsLedTo napot memory pointer.table.number widths kind frame
+  led_along kind frame mapped = ((levels_are_walks napot memory pointer.table.number 1 pointer.level (tables_have_indices pointer.level pointer.in_range)).1 kind frame).0 mapped
 
-  mapped_along : (kind : AccessKind) (frame : ℕ) → IsLedTo memory pointer.table.number widths kind frame → IsMappedAlong memory pointer kind frame
-  mapped_along kind frame led = ((levels_are_walks memory pointer.table.number 1 pointer.level (tables_have_indices pointer.level pointer.in_range)).1 kind frame).1 led
+  mapped_along : (kind : AccessKind) (frame : ℕ) → IsLedTo napot memory pointer.table.number widths kind frame → IsMappedAlong napot memory pointer kind frame
+  mapped_along kind frame led = ((levels_are_walks napot memory pointer.table.number 1 pointer.level (tables_have_indices pointer.level pointer.in_range)).1 kind frame).1 led
 
-  read_along : (frame : ℕ) → IsTableAlong memory pointer frame → IsReadBelow memory pointer.table.number widths frame
-  read_along frame table = ((levels_are_walks memory pointer.table.number 1 pointer.level (tables_have_indices pointer.level pointer.in_range)).0 frame).0 table
+  read_along : (frame : ℕ) → IsTableAlong napot memory pointer frame → IsReadBelow napot memory pointer.table.number widths frame
+  read_along frame table = ((levels_are_walks napot memory pointer.table.number 1 pointer.level (tables_have_indices pointer.level pointer.in_range)).0 frame).0 table
 
-  table_along : (frame : ℕ) → IsReadBelow memory pointer.table.number widths frame → IsTableAlong memory pointer frame
-  table_along frame reads = ((levels_are_walks memory pointer.table.number 1 pointer.level (tables_have_indices pointer.level pointer.in_range)).0 frame).1 reads
+  table_along : (frame : ℕ) → IsReadBelow napot memory pointer.table.number widths frame → IsTableAlong napot memory pointer frame
+  table_along frame reads = ((levels_are_walks napot memory pointer.table.number 1 pointer.level (tables_have_indices pointer.level pointer.in_range)).0 frame).1 reads
 
 -- WHO FINDS A CONTEXT OF THE SPACE
 
@@ -178,24 +182,221 @@ module _ (trusted : ℕ → Bool) (parts : BoardParts) where
       (located_ok (located_by_mode (mode_in parts) parts.memory (directory_root (registers_of parts.iommu)) id) context is) in
       (context_of context, (plugged_in id plug, inl ((tables, at), inr (tables, at, ends))), space_known context own has)
 
+  -- the same hardware, of which walks know leaves of 64 KiB, or don't
+  abbrev Read : Bool → HardwareScene
+  Read napot = reading (format_of napot) S
+
+  -- WAYS AND TABLES FROM CONTEXTS
+
+  abbrev Leads : ℕ → (ℕ → List WalkStep) → Mapping → Type 0
+  Leads table steps_to mapping = LeadsToMapping (formats_of true) (slice_get parts.memory) table steps_to mapping
+
+  -- a context's tables map a frame to which a walk from their root leads
+  leaf_of_context : (found : DeviceContext) (tables : Tables) (table frame : ℕ) (kind : AccessKind) (steps_to : ℕ → List WalkStep) (mapping : Mapping)
+      → tables_of (context_of found).stages ≡ Some tables → tables.root ≡ table → steps_to ≡ steps_in (context_of found).stages
+      → Leads table steps_to mapping → ServesKind mapping frame kind → HaveLeafIn true parts.memory found.first_stage found.second_stage kind frame
+  leaf_of_context found tables table frame kind steps_to mapping decide root all leads serves =
+      leads_leaf true parts.memory found.first_stage found.second_stage found.gscid found.pscid.number kind frame (
+        tables,
+        mapping,
+        decide,
+        (
+          subst (λ (to : ℕ → List WalkStep). Leads tables.root to mapping) all (subst (λ (r : ℕ). Leads r steps_to mapping) (sym root) leads),
+          serves,
+        ),
+      )
+
+  reached_found : (found : Option DeviceContext) (context : DeviceContext) (own : Space) (id frame : ℕ) (kind : AccessKind) → found ≡ Some context → space_of_context context ≡ Some own
+      → HaveLeafIn true parts.memory context.first_stage context.second_stage kind frame → SharesSpace parts own id → IsReachedFound parts found id kind frame
+  reached_found found context own id frame kind is has leaf shares =
+      (own, subst (λ (o : Option DeviceContext). FoundLeafIn true parts.memory own o kind frame) (sym is) (has, leaf), shares)
+
+  -- so does a context that some device may find, where the device shares its address space
+  reached_from : (id frame other : ℕ) (kind : AccessKind) (context : Context) (tables : Tables) (space : AddressSpace) (table : ℕ) (steps_to : ℕ → List WalkStep) (mapping : Mapping)
+      → MayFind S other context → space_of context.stages ≡ Some space → tables_of context.stages ≡ Some tables → tables.root ≡ table → steps_to ≡ steps_in context.stages
+      → Leads table steps_to mapping → ServesKind mapping frame kind → SharesSpace parts (cached_space space) id → IsReachedOfSome parts id kind frame
+  reached_from id frame other kind context tables space table steps_to mapping may is decide root all leads serves shares =
+      let (found, finds, same) = found_in trusted parts [] no_walks (none_plugged parts) other context may in
+      let (plug, found_plug) = plugged trusted parts [] no_walks (none_plugged parts) other may.0 in
+      let (k, low, (at, own)) = device_place parts.devices other plug found_plug in
+      let leaf = leaf_of_context found tables table frame kind steps_to mapping (ap (λ (c : Context). tables_of c.stages) same ∙ decide) root
+      (all ∙ ap (λ (c : Context). steps_in c.stages) (sym same)) leads serves in
+      let has = space_named found space (ap (λ (c : Context). space_of c.stages) same ∙ is) in
+      (k, low, (plug, at, subst (λ (n : ℕ). Reached n) (sym own) (by found finds has leaf)))
+    where
+      Reached : ℕ → Type 0
+      Reached n = IsReachedFound parts (cached_found parts n) id kind frame ⊎ IsReachedFound parts (stored_found parts n) id kind frame
+
+      by : (found : DeviceContext) → Finds parts [] other found → space_of_context found ≡ Some (cached_space space)
+          → HaveLeafIn true parts.memory found.first_stage found.second_stage kind frame → Reached other
+      by found (inl (inl cached)) has leaf = inl (reached_found (cached_found parts other) found (cached_space space) id frame kind cached has leaf shares)
+      by found (inl (inr stored)) has leaf = inr (reached_found (stored_found parts other) found (cached_space space) id frame kind stored has leaf shares)
+      by found (inr sought) has leaf = absurd (none_is_some found sought)
+
+  -- and the other way round
+  leaf_found_in : (found : Option DeviceContext) (own : Space) (kind : AccessKind) (frame : ℕ) → FoundLeafIn true parts.memory own found kind frame
+      → (context : DeviceContext) × (found ≡ Some context) × ((space_of_context context ≡ Some own) × HaveLeafIn true parts.memory context.first_stage context.second_stage kind frame)
+  leaf_found_in None own kind frame never = absurd never
+  leaf_found_in (Some context) own kind frame (has, leaf) = (context, refl, (has, leaf))
+
+  table_found_in : (found : Option DeviceContext) (own : Space) (frame : ℕ) → FoundTableIn true parts.memory own found frame
+      → (context : DeviceContext) × (found ≡ Some context) × ((space_of_context context ≡ Some own) × HaveTableIn true parts.memory context.first_stage context.second_stage frame)
+  table_found_in None own frame never = absurd never
+  table_found_in (Some context) own frame (has, table) = (context, refl, (has, table))
+
+  -- where a device stands, one with its id may find what it finds
+  finder_finds : (k : ℕ) (finder : Device) (context : DeviceContext) → slice_get parts.devices k ≡ Some finder → Finds parts [] finder.id context → MayFind S finder.id (context_of context)
+  finder_finds k finder context at finds =
+      let (plug, is) = found_with parts.devices k finder at in
+      may_find trusted parts [] no_walks finder.id context (has trusted parts [] no_walks finder.id plug is) finds
+
+  way_from : (id frame other : ℕ) (kind : AccessKind) (context : DeviceContext) (own : Space) → MayFind S other (context_of context) → space_of_context context ≡ Some own
+      → HaveLeafIn true parts.memory context.first_stage context.second_stage kind frame → SharesSpace parts own id → Way (Read true) id frame kind
+  way_from id frame other kind context own may has leaf shares =
+      let (tables, mapping, decide, (leads, serves)) = leaf_leads true parts.memory context.first_stage context.second_stage context.gscid context.pscid.number kind frame leaf in
+      let (found, finds, is) = finds_by_space id own shares in
+      ByContext found finds (Translated (address_space own) is (inr (
+        tables.root,
+        steps_in (context_of context).stages,
+        mapping,
+        AtRoot other (context_of context) tables may (space_known context own has) decide refl refl,
+        leads,
+        serves,
+      )))
+
+  way_found : (id frame k : ℕ) (kind : AccessKind) (finder : Device) (found : Option DeviceContext) → slice_get parts.devices k ≡ Some finder
+      → ((context : DeviceContext) → found ≡ Some context → Finds parts [] finder.id context) → IsReachedFound parts found id kind frame → Way (Read true) id frame kind
+  way_found id frame k kind finder found at finds (own, leaf, shares) =
+      let (context, is, (has, leads)) = leaf_found_in found own kind frame leaf in
+      way_from id frame finder.id kind context own (finder_finds k finder context at (finds context is)) has leads shares
+
+  reached_way : (id frame : ℕ) (kind : AccessKind) → IsReachedOfSome parts id kind frame → Way (Read true) id frame kind
+  reached_way id frame kind (k, low, (finder, at, inl cached)) = way_found id frame k kind finder (cached_found parts finder.id) at (λ context is. inl (inl is)) cached
+  reached_way id frame kind (k, low, (finder, at, inr stored)) = way_found id frame k kind finder (stored_found parts finder.id) at (λ context is. inl (inr is)) stored
+
+  table_of_found : (frame k : ℕ) (finder : Device) (found : Option DeviceContext) → slice_get parts.devices k ≡ Some finder
+      → ((context : DeviceContext) → found ≡ Some context → Finds parts [] finder.id context) → IsTableFound parts.memory found frame → IsOfTables (Read true) frame
+  table_of_found frame k finder found at finds (own, table) =
+      let (context, is, (has, there)) = table_found_in found own frame table in
+      let (tables, page, decide, reads) = table_reads true parts.memory context.first_stage context.second_stage context.gscid context.pscid.number frame there in (
+        address_space own,
+        tables.root,
+        steps_in (context_of context).stages,
+        page,
+        AtRoot finder.id (context_of context) tables (finder_finds k finder context at (finds context is)) (space_known context own has) decide refl refl,
+        reads,
+      )
+
+  table_of_some : (frame : ℕ) → IsTableOfSome parts frame → IsOfTables (Read true) frame
+  table_of_some frame (k, low, (finder, at, inl cached)) = table_of_found frame k finder (cached_found parts finder.id) at (λ context is. inl (inl is)) cached
+  table_of_some frame (k, low, (finder, at, inr stored)) = table_of_found frame k finder (stored_found parts finder.id) at (λ context is. inl (inr is)) stored
+
+  -- WHERE WALKS KNOW LEAVES OF 64 KiB each way is one without them, or leads by these from some context
+  abbrev IsNarrow : Bool → (id frame : ℕ) → AccessKind → Type 0
+  IsNarrow napot id frame kind = Way S id frame kind ⊎ ((napot ≡ true) × IsReachedOfSome parts id kind frame)
+
+  through_narrow : (id frame : ℕ) (kind : AccessKind) (context : Context) → MayFind S id context → Through (Read true) id context frame kind → IsNarrow true id frame kind
+  through_narrow id frame kind context find (ByAts lets through) = inl (ByContext context find (ByAts lets through))
+  through_narrow id frame kind context find (Untranslated none) = inl (ByContext context find (Untranslated none))
+  through_narrow id frame kind context find (Translated space is (inl cached)) = inl (ByContext context find (Translated space is (inl cached)))
+  through_narrow id frame kind context find (Translated space is (inr (table, steps_to, mapping, AtRoot other known tables may same decide root all, leads, serves))) =
+      inr (
+        refl,
+        reached_from id frame other kind known tables space table steps_to mapping may same decide root all leads serves
+            (shares_by id context (cached_space space) find (is ∙ ap (λ s. Some s) (name_known space (cached_space space) refl))),
+      )
+  through_narrow id frame kind context find (Translated space is (inr (table, steps_to, mapping, PartWay device there, leads, serves))) = absurd (in_none (record {
+    device = device;
+    space = space;
+    table = table;
+    steps_to = steps_to;
+  }) there)
+
+  narrow : (napot : Bool) (id frame : ℕ) (kind : AccessKind) → Way (Read napot) id frame kind → IsNarrow napot id frame kind
+  narrow false id frame kind way = inl way
+  narrow true id frame kind (Accepted there) = inl (Accepted there)
+  narrow true id frame kind (AnyFrame device bare) = inl (AnyFrame device bare)
+  narrow true id frame kind (ByContext context find through) = through_narrow id frame kind context find through
+  narrow true id frame kind (OnTheWalk space table steps_to mapping there leads serves) = absurd (in_none (record {
+    device = Some id;
+    space = space;
+    table = table;
+    steps_to = steps_to;
+  }) there)
+
+  -- and each of these is a way
+  module _ (napot : Bool) where
+    leads_wide : (table : ℕ) (steps_to : ℕ → List WalkStep) (mapping : Mapping) → LeadsToMapping S.formats S.memory table steps_to mapping
+        → LeadsToMapping (Read napot).formats S.memory table steps_to mapping
+    leads_wide table steps_to mapping (page, ends) = (page, ends_wider entry_format (format_of napot) (reads_more napot) (slice_get parts.memory) table (steps_to page) mapping ends)
+
+    through_wide : (id frame : ℕ) (kind : AccessKind) (context : Context) → Through S id context frame kind → Through (Read napot) id context frame kind
+    through_wide id frame kind context (ByAts lets through) = ByAts lets through
+    through_wide id frame kind context (Untranslated none) = Untranslated none
+    through_wide id frame kind context (Translated space is (inl cached)) = Translated space is (inl cached)
+    through_wide id frame kind context (Translated space is (inr (table, steps_to, mapping, begins, leads, serves))) =
+        Translated space is (inr (
+          table,
+          steps_to,
+          mapping,
+          begins_wider (format_of napot) S (reads_more napot) space table steps_to begins,
+          leads_wide table steps_to mapping leads,
+          serves,
+        ))
+
+    way_wide : (id frame : ℕ) (kind : AccessKind) → Way S id frame kind → Way (Read napot) id frame kind
+    way_wide id frame kind (Accepted there) = Accepted there
+    way_wide id frame kind (AnyFrame device bare) = AnyFrame device bare
+    way_wide id frame kind (ByContext context find through) = ByContext context find (through_wide id frame kind context through)
+    way_wide id frame kind (OnTheWalk space table steps_to mapping there leads serves) =
+        OnTheWalk space table steps_to mapping there (leads_wide table steps_to mapping leads) serves
+
+    -- the same tables are read
+    table_narrow : (frame : ℕ) → IsOfTables (Read napot) frame → IsOfTables S frame
+    table_narrow frame (space, table, steps_to, page, begins, reads) = (
+      space,
+      table,
+      steps_to,
+      page,
+      begins_narrower (format_of napot) S (reads_more napot) space table steps_to begins,
+      reads_no_more entry_format (format_of napot) (reads_more napot) (slice_get parts.memory) table (steps_to page) frame reads,
+    )
+
+    table_wide : (frame : ℕ) → IsOfTables S frame → IsOfTables (Read napot) frame
+    table_wide frame (space, table, steps_to, page, begins, reads) = (
+      space,
+      table,
+      steps_to,
+      page,
+      begins_wider (format_of napot) S (reads_more napot) space table steps_to begins,
+      reads_wider entry_format (format_of napot) (reads_more napot) (slice_get parts.memory) table (steps_to page) frame reads,
+    )
+
+  way_back : (napot : Bool) (id frame : ℕ) (kind : AccessKind) → IsNarrow napot id frame kind → Way (Read napot) id frame kind
+  way_back napot id frame kind (inl way) = way_wide napot id frame kind way
+  way_back napot id frame kind (inr (is, reached)) = subst (λ (b : Bool). Way (Read b) id frame kind) (sym is) (reached_way id frame kind reached)
+
+  table_back : (napot : Bool) (frame : ℕ) → napot ≡ true → IsTableOfSome parts frame → IsOfTables (Read napot) frame
+  table_back napot frame is table = subst (λ (b : Bool). IsOfTables (Read b) frame) (sym is) (table_of_some frame table)
+
   -- WAYS AND TABLES BY POINTERS
-  module _ (pointers : List Pointer) where
-    leads_reached : (id frame : ℕ) (kind : AccessKind) → LeadsByPointer S pointers id frame kind → IsReachedAlongSome parts pointers id kind frame
+  module _ (napot : Bool) (pointers : List Pointer) where
+    leads_reached : (id frame : ℕ) (kind : AccessKind) → LeadsByPointer (Read napot) pointers id frame kind → IsReachedAlongSome napot parts pointers id kind frame
     leads_reached id frame kind (context, may, (pointer, among, is, (mapping, leads, serves))) =
         let (k, low, at) = contains_get pointers pointer among in
-        (k, low, (pointer, at, (mapped_along parts.memory pointer kind frame (mapping, leads, serves), shares_by id context pointer.space may is)))
+        (k, low, (pointer, at, (mapped_along napot parts.memory pointer kind frame (mapping, leads, serves), shares_by id context pointer.space may is)))
 
-    reached_leads : (id frame : ℕ) (kind : AccessKind) → IsReachedAlongSome parts pointers id kind frame → LeadsByPointer S pointers id frame kind
+    reached_leads : (id frame : ℕ) (kind : AccessKind) → IsReachedAlongSome napot parts pointers id kind frame → LeadsByPointer (Read napot) pointers id frame kind
     reached_leads id frame kind (k, low, (pointer, at, (mapped, shares))) =
         let (context, may, is) = finds_by_space id pointer.space shares in
-        (context, may, (pointer, get_contains pointers k pointer at, is, led_along parts.memory pointer kind frame mapped))
+        (context, may, (pointer, get_contains pointers k pointer at, is, led_along napot parts.memory pointer kind frame mapped))
 
-    reads_tables : (frame : ℕ) → ReadsByPointer S pointers frame → IsTableAlongSome parts.memory pointers frame
+    reads_tables : (frame : ℕ) → ReadsByPointer (Read napot) pointers frame → IsTableAlongSome napot parts.memory pointers frame
     reads_tables frame (pointer, among, reads) =
-        let (k, low, at) = contains_get pointers pointer among in (k, low, (pointer, at, table_along parts.memory pointer frame reads))
+        let (k, low, at) = contains_get pointers pointer among in (k, low, (pointer, at, table_along napot parts.memory pointer frame reads))
 
-    tables_read : (frame : ℕ) → IsTableAlongSome parts.memory pointers frame → ReadsByPointer S pointers frame
-    tables_read frame (k, low, (pointer, at, table)) = (pointer, get_contains pointers k pointer at, read_along parts.memory pointer frame table)
+    tables_read : (frame : ℕ) → IsTableAlongSome napot parts.memory pointers frame → ReadsByPointer (Read napot) pointers frame
+    tables_read frame (k, low, (pointer, at, table)) = (pointer, get_contains pointers k pointer at, read_along napot parts.memory pointer frame table)
 
 -- ROWS
 
@@ -259,34 +460,53 @@ row_reaching None kind frame is = absurd (false≢true is)
 row_reaching (Some row) kind frame is = (row, refl, is)
 
 -- THE SURVEY
-module _ (trusted : ℕ → Bool) (parts : BoardParts) (pointers : List Pointer) (ways : PointersAddTheirWays) (tables : PointersAddTheirTables) (old new : Survey) (looks : LooksAlong parts pointers old new) where
+module _ (napot : Bool) (trusted : ℕ → Bool) (parts : BoardParts) (pointers : List Pointer) (ways : PointersAddTheirWays) (tables : PointersAddTheirTables) (old new : Survey) (looks : LooksAlong napot parts pointers old new) where
   abbrev Before : HardwareScene
   Before = scene_of trusted parts
 
+  -- with leaves of 64 KiB, or without
+  abbrev Between : HardwareScene
+  Between = Read trusted parts napot
+
   abbrev After : HardwareScene
-  After = pointed_scene trusted parts pointers
+  After = pointed_scene napot trusted parts pointers
 
   -- nothing is missed
-  way_reached : HasRowOfEach Before old.devices.items → Surveys old Before → (id frame : ℕ) (kind : AccessKind) → Way Before id frame kind ⊎ LeadsByPointer Before pointers id frame kind
-      → reaches_in_rows new.devices.items id kind frame ≡ true
-  way_reached rows surveys id frame kind (inl way) =
+  way_had : HasRowOfEach Before old.devices.items → Surveys old Before → (id frame : ℕ) (kind : AccessKind) → Way Before id frame kind → reaches_in_rows new.devices.items id kind frame ≡ true
+  way_had rows surveys id frame kind way =
       let (row, at, has) = row_reaching (find (λ (own : DeviceReach). own.id == id) old.devices.items) kind frame (surveys.reached id frame kind way) in
-      reached_grown old.devices.items new.devices.items id frame kind row (IsReachedAlongSome parts pointers) looks.devices at (inl has)
-  way_reached rows surveys id frame kind (inr leads) =
-      let (row, at) = rows id leads.1.0 in
-      reached_grown old.devices.items new.devices.items id frame kind row (IsReachedAlongSome parts pointers) looks.devices at (inr (leads_reached trusted parts pointers id frame kind leads))
+      reached_grown old.devices.items new.devices.items id frame kind row (IsReachedBeside napot parts pointers) looks.devices at (inl has)
+
+  way_added : HasRowOfEach Before old.devices.items → (id frame : ℕ) (kind : AccessKind) → HasDevice Before id → IsReachedBeside napot parts pointers id kind frame
+      → reaches_in_rows new.devices.items id kind frame ≡ true
+  way_added rows id frame kind device beside =
+      let (row, at) = rows id device in
+      reached_grown old.devices.items new.devices.items id frame kind row (IsReachedBeside napot parts pointers) looks.devices at (inr beside)
+
+  -- who reaches a frame from some context is plugged in
+  who_reaches : (id frame : ℕ) (kind : AccessKind) → IsReachedOfSome parts id kind frame → HasDevice Before id
+  who_reaches id frame kind (k, low, (finder, at, inl (own, leaf, shares))) = plugged_in trusted parts id shares.0
+  who_reaches id frame kind (k, low, (finder, at, inr (own, leaf, shares))) = plugged_in trusted parts id shares.0
+
+  way_reached : HasRowOfEach Before old.devices.items → Surveys old Before → (id frame : ℕ) (kind : AccessKind) → Way Between id frame kind ⊎ LeadsByPointer Between pointers id frame kind
+      → reaches_in_rows new.devices.items id kind frame ≡ true
+  way_reached rows surveys id frame kind (inl way) = elim (narrow trusted parts napot id frame kind way) [
+    | inl plain ↦ way_had rows surveys id frame kind plain
+    | inr wide ↦ way_added rows id frame kind (who_reaches id frame kind wide.1) (inl wide)
+  ]
+  way_reached rows surveys id frame kind (inr leads) = way_added rows id frame kind leads.1.0 (inr (leads_reached trusted parts napot pointers id frame kind leads))
 
   pub rows_kept : HasRowOfEach Before old.devices.items → HasRowOfEach After new.devices.items
   rows_kept rows id device =
       let (row, at) = rows id device in
-      let (after, there, (same, grown)) = row_grown old.devices.items new.devices.items id row (IsReachedAlongSome parts pointers) looks.devices at in (after, there)
+      let (after, there, (same, grown)) = row_grown old.devices.items new.devices.items id row (IsReachedBeside napot parts pointers) looks.devices at in (after, there)
 
-  table_had : Surveys old Before → (frame : ℕ) → IsOfTables Before frame ⊎ ReadsByPointer Before pointers frame → row_has new.read frame ≡ true
-  table_had surveys frame (inl table) = looks.read.unchanged frame (surveys.read frame (inl table))
-  table_had surveys frame (inr reads) = looks.read.added frame (reads_tables trusted parts pointers frame reads)
+  table_had : Surveys old Before → (frame : ℕ) → IsOfTables Between frame ⊎ ReadsByPointer Between pointers frame → row_has new.read frame ≡ true
+  table_had surveys frame (inl table) = looks.read.unchanged frame (surveys.read frame (inl (table_narrow trusted parts napot frame table)))
+  table_had surveys frame (inr reads) = looks.read.added frame (inr (reads_tables trusted parts napot pointers frame reads))
 
   read_had : Surveys old Before → (frame : ℕ) → IsRead After frame → row_has new.read frame ≡ true
-  read_had surveys frame (inl table) = table_had surveys frame ((tables Before pointers frame).0 table)
+  read_had surveys frame (inl table) = table_had surveys frame ((tables Between pointers frame).0 table)
   read_had surveys frame (inr other) = looks.read.unchanged frame (surveys.read frame (inr other))
 
   trust_told : Surveys old Before → TellsTrust After new.devices.items
@@ -297,7 +517,7 @@ module _ (trusted : ℕ → Bool) (parts : BoardParts) (pointers : List Pointer)
 
   pub missed_along : HasRowOfEach Before old.devices.items → Surveys old Before → Surveys new After
   missed_along rows surveys = record {
-    reached = λ id frame kind way. way_reached rows surveys id frame kind ((ways Before pointers id frame kind).0 way);
+    reached = λ id frame kind way. way_reached rows surveys id frame kind ((ways Between pointers id frame kind).0 way);
     read = read_had surveys;
     stored = λ frame is. ap (λ (row : List ℕ). row_has row frame) looks.stored ∙ surveys.stored frame is;
     trusted = trust_told surveys;
@@ -305,22 +525,30 @@ module _ (trusted : ℕ → Bool) (parts : BoardParts) (pointers : List Pointer)
   }
 
   -- nothing is invented
+  way_beside : (id frame : ℕ) (kind : AccessKind) → IsReachedBeside napot parts pointers id kind frame → Way After id frame kind
+  way_beside id frame kind (inl wide) = (ways Between pointers id frame kind).1 (inl (way_back trusted parts napot id frame kind (inr wide)))
+  way_beside id frame kind (inr along) = (ways Between pointers id frame kind).1 (inr (reached_leads trusted parts napot pointers id frame kind along))
+
   row_way : InventsNone old Before → (k : ℕ) (before row : DeviceReach) (frame : ℕ) (kind : AccessKind) → slice_get old.devices.items k ≡ Some before
-      → (row_has (frames_by before.reach kind) frame ≡ true) ⊎ ((other : ℕ) × IsReachedAlongSome parts pointers before.id kind other × (frame_place other ≡ frame_place frame))
+      → (row_has (frames_by before.reach kind) frame ≡ true) ⊎ ((other : ℕ) × IsReachedBeside napot parts pointers before.id kind other × (frame_place other ≡ frame_place frame))
       → IsReachedAs After before.id frame kind
   row_way invents k before row frame kind here (inl had) =
-      let (other, way, same) = invents.reached k before frame kind here had in (other, (ways Before pointers before.id other kind).1 (inl way), same)
-  row_way invents k before row frame kind here (inr (other, reached, same)) =
-      (other, (ways Before pointers before.id other kind).1 (inr (reached_leads trusted parts pointers before.id other kind reached)), same)
+      let (other, way, same) = invents.reached k before frame kind here had in
+      (other, (ways Between pointers before.id other kind).1 (inl (way_back trusted parts napot before.id other kind (inl way))), same)
+  row_way invents k before row frame kind here (inr (other, beside, same)) = (other, way_beside before.id other kind beside, same)
 
   still_read : (frame : ℕ) → IsRead Before frame → IsRead After frame
-  still_read frame (inl table) = inl ((tables Before pointers frame).1 (inl table))
+  still_read frame (inl table) = inl ((tables Between pointers frame).1 (inl (table_wide trusted parts napot frame table)))
   still_read frame (inr other) = inr other
 
-  frame_read : InventsNone old Before → (frame : ℕ) → (row_has old.read frame ≡ true) ⊎ ((other : ℕ) × IsTableAlongSome parts.memory pointers other × (frame_place other ≡ frame_place frame))
+  table_beside : (frame : ℕ) → IsTableBeside napot parts pointers frame → IsOfTables After frame
+  table_beside frame (inl (is, table)) = (tables Between pointers frame).1 (inl (table_back trusted parts napot frame is table))
+  table_beside frame (inr along) = (tables Between pointers frame).1 (inr (tables_read trusted parts napot pointers frame along))
+
+  frame_read : InventsNone old Before → (frame : ℕ) → (row_has old.read frame ≡ true) ⊎ ((other : ℕ) × IsTableBeside napot parts pointers other × (frame_place other ≡ frame_place frame))
       → IsReadAs After frame
   frame_read invents frame (inl had) = let (other, is, same) = invents.read frame had in (other, still_read other is, same)
-  frame_read invents frame (inr (other, table, same)) = (other, inl ((tables Before pointers other).1 (inr (tables_read trusted parts pointers other table))), same)
+  frame_read invents frame (inr (other, beside, same)) = (other, inl (table_beside other beside), same)
 
   pub invented_along : InventsNone old Before → InventsNone new After
   invented_along invents = record {

@@ -39,7 +39,7 @@ use Rattle.iom_hardware_ways.proofs.ListLemmas.{contains_map, get_contains}
 use Rattle.iom_hardware_ways.proofs.PageIndices.{sizes_have_indices}
 use Rattle.iom_tlb.specs.declared.space.Space.{Space}
 use Rattle.iom_tlb.specs.declared.space.Space.TheVariants as space
-use Rattle.iom_way_survey.specs.Found.{has_directory, mode_in, cached_found, stored_found, sought_found, Finds, space_of_context, HaveTable, HaveLeaf, FoundTable, SpaceTable, TablesThrough, TablesFound, SomeTable, FoundLeaf, IsCachedIn, InSpace, AnswersSo, IsAnsweredAmong, IsInCache, LetsKind, ThroughSpace, ThroughFound, IsThatAccess, LookedUpWay, RequestWay, WayOf}
+use Rattle.iom_way_survey.specs.Found.{has_directory, mode_in, cached_found, stored_found, sought_found, Finds, space_of_context, HaveTableIn, HaveLeafIn, FoundTable, SpaceTable, TablesThrough, TablesFound, SomeTable, FoundLeaf, IsCachedIn, InSpace, AnswersSo, IsAnsweredAmong, IsInCache, LetsKind, ThroughSpace, ThroughFound, IsThatAccess, LookedUpWay, RequestWay, WayOf}
 use Rattle.std.proofs.lemmas.List.Elements.{Contains-append_left, Contains-append_right}
 use Rattle.iom_hardware_ways.specs.Formats.{indices_from}
 use Rattle.iom_reach.specs.Ways.{WalkBegins, PartWay, OnTheWalk}
@@ -63,35 +63,35 @@ use Rattle.iom_way_survey.proofs.WayLemmas.{StagesLead, StagesRead, spaces_by, n
 
 -- A CONTEXT'S TABLES
 
-leaf_leads : (memory : List (List ℕ)) (f : First) (s : Second) (g p : ℕ) (kind : AccessKind) (frame : ℕ) → HaveLeaf memory f s kind frame → StagesLead memory (stages_in f s g p) kind frame
-leaf_leads memory first.Bare second.Bare g p kind frame never = absurd never
-leaf_leads memory (first.Tables Sv39 root) second.Bare g p kind frame leaf =
-    let (mapping, leads, serves) = ((levels_are_walks memory root.number 1 2 (sizes_have_indices Sv39).0).1 kind frame).0 leaf in (record { root = root.number; levels = 3 }, mapping, refl, (leads, serves))
-leaf_leads memory (first.Tables Sv48 root) second.Bare g p kind frame leaf =
-    let (mapping, leads, serves) = ((levels_are_walks memory root.number 1 3 (sizes_have_indices Sv48).0).1 kind frame).0 leaf in (record { root = root.number; levels = 4 }, mapping, refl, (leads, serves))
-leaf_leads memory first.Bare (second.Tables Sv39 root) g p kind frame leaf =
-    let (mapping, leads, serves) = ((levels_are_walks memory root.number 4 2 (sizes_have_indices Sv39).1).1 kind frame).0 leaf in (record { root = root.number; levels = 3 }, mapping, refl, (leads, serves))
-leaf_leads memory first.Bare (second.Tables Sv48 root) g p kind frame leaf =
-    let (mapping, leads, serves) = ((levels_are_walks memory root.number 4 3 (sizes_have_indices Sv48).1).1 kind frame).0 leaf in (record { root = root.number; levels = 4 }, mapping, refl, (leads, serves))
-leaf_leads memory (first.Tables size own) (second.Tables Sv39 root) g p kind frame leaf =
-    let (mapping, leads, serves) = ((levels_are_walks memory root.number 4 2 (sizes_have_indices Sv39).1).1 kind frame).0 leaf in (record { root = root.number; levels = 3 }, mapping, refl, (leads, serves))
-leaf_leads memory (first.Tables size own) (second.Tables Sv48 root) g p kind frame leaf =
-    let (mapping, leads, serves) = ((levels_are_walks memory root.number 4 3 (sizes_have_indices Sv48).1).1 kind frame).0 leaf in (record { root = root.number; levels = 4 }, mapping, refl, (leads, serves))
+pub leaf_leads : (napot : Bool) (memory : List (List ℕ)) (f : First) (s : Second) (g p : ℕ) (kind : AccessKind) (frame : ℕ) → HaveLeafIn napot memory f s kind frame → StagesLead napot memory (stages_in f s g p) kind frame
+leaf_leads napot memory first.Bare second.Bare g p kind frame never = absurd never
+leaf_leads napot memory (first.Tables Sv39 root) second.Bare g p kind frame leaf =
+    let (mapping, leads, serves) = ((levels_are_walks napot memory root.number 1 2 (sizes_have_indices Sv39).0).1 kind frame).0 leaf in (record { root = root.number; levels = 3 }, mapping, refl, (leads, serves))
+leaf_leads napot memory (first.Tables Sv48 root) second.Bare g p kind frame leaf =
+    let (mapping, leads, serves) = ((levels_are_walks napot memory root.number 1 3 (sizes_have_indices Sv48).0).1 kind frame).0 leaf in (record { root = root.number; levels = 4 }, mapping, refl, (leads, serves))
+leaf_leads napot memory first.Bare (second.Tables Sv39 root) g p kind frame leaf =
+    let (mapping, leads, serves) = ((levels_are_walks napot memory root.number 4 2 (sizes_have_indices Sv39).1).1 kind frame).0 leaf in (record { root = root.number; levels = 3 }, mapping, refl, (leads, serves))
+leaf_leads napot memory first.Bare (second.Tables Sv48 root) g p kind frame leaf =
+    let (mapping, leads, serves) = ((levels_are_walks napot memory root.number 4 3 (sizes_have_indices Sv48).1).1 kind frame).0 leaf in (record { root = root.number; levels = 4 }, mapping, refl, (leads, serves))
+leaf_leads napot memory (first.Tables size own) (second.Tables Sv39 root) g p kind frame leaf =
+    let (mapping, leads, serves) = ((levels_are_walks napot memory root.number 4 2 (sizes_have_indices Sv39).1).1 kind frame).0 leaf in (record { root = root.number; levels = 3 }, mapping, refl, (leads, serves))
+leaf_leads napot memory (first.Tables size own) (second.Tables Sv48 root) g p kind frame leaf =
+    let (mapping, leads, serves) = ((levels_are_walks napot memory root.number 4 3 (sizes_have_indices Sv48).1).1 kind frame).0 leaf in (record { root = root.number; levels = 4 }, mapping, refl, (leads, serves))
 
-table_reads : (memory : List (List ℕ)) (f : First) (s : Second) (g p : ℕ) (frame : ℕ) → HaveTable memory f s frame → StagesRead memory (stages_in f s g p) frame
-table_reads memory first.Bare second.Bare g p frame never = absurd never
-table_reads memory (first.Tables Sv39 root) second.Bare g p frame table =
-    let (page, reads) = ((levels_are_walks memory root.number 1 2 (sizes_have_indices Sv39).0).0 frame).0 table in (record { root = root.number; levels = 3 }, page, refl, reads)
-table_reads memory (first.Tables Sv48 root) second.Bare g p frame table =
-    let (page, reads) = ((levels_are_walks memory root.number 1 3 (sizes_have_indices Sv48).0).0 frame).0 table in (record { root = root.number; levels = 4 }, page, refl, reads)
-table_reads memory first.Bare (second.Tables Sv39 root) g p frame table =
-    let (page, reads) = ((levels_are_walks memory root.number 4 2 (sizes_have_indices Sv39).1).0 frame).0 table in (record { root = root.number; levels = 3 }, page, refl, reads)
-table_reads memory first.Bare (second.Tables Sv48 root) g p frame table =
-    let (page, reads) = ((levels_are_walks memory root.number 4 3 (sizes_have_indices Sv48).1).0 frame).0 table in (record { root = root.number; levels = 4 }, page, refl, reads)
-table_reads memory (first.Tables size own) (second.Tables Sv39 root) g p frame table =
-    let (page, reads) = ((levels_are_walks memory root.number 4 2 (sizes_have_indices Sv39).1).0 frame).0 table in (record { root = root.number; levels = 3 }, page, refl, reads)
-table_reads memory (first.Tables size own) (second.Tables Sv48 root) g p frame table =
-    let (page, reads) = ((levels_are_walks memory root.number 4 3 (sizes_have_indices Sv48).1).0 frame).0 table in (record { root = root.number; levels = 4 }, page, refl, reads)
+pub table_reads : (napot : Bool) (memory : List (List ℕ)) (f : First) (s : Second) (g p : ℕ) (frame : ℕ) → HaveTableIn napot memory f s frame → StagesRead napot memory (stages_in f s g p) frame
+table_reads napot memory first.Bare second.Bare g p frame never = absurd never
+table_reads napot memory (first.Tables Sv39 root) second.Bare g p frame table =
+    let (page, reads) = ((levels_are_walks napot memory root.number 1 2 (sizes_have_indices Sv39).0).0 frame).0 table in (record { root = root.number; levels = 3 }, page, refl, reads)
+table_reads napot memory (first.Tables Sv48 root) second.Bare g p frame table =
+    let (page, reads) = ((levels_are_walks napot memory root.number 1 3 (sizes_have_indices Sv48).0).0 frame).0 table in (record { root = root.number; levels = 4 }, page, refl, reads)
+table_reads napot memory first.Bare (second.Tables Sv39 root) g p frame table =
+    let (page, reads) = ((levels_are_walks napot memory root.number 4 2 (sizes_have_indices Sv39).1).0 frame).0 table in (record { root = root.number; levels = 3 }, page, refl, reads)
+table_reads napot memory first.Bare (second.Tables Sv48 root) g p frame table =
+    let (page, reads) = ((levels_are_walks napot memory root.number 4 3 (sizes_have_indices Sv48).1).0 frame).0 table in (record { root = root.number; levels = 4 }, page, refl, reads)
+table_reads napot memory (first.Tables size own) (second.Tables Sv39 root) g p frame table =
+    let (page, reads) = ((levels_are_walks napot memory root.number 4 2 (sizes_have_indices Sv39).1).0 frame).0 table in (record { root = root.number; levels = 3 }, page, refl, reads)
+table_reads napot memory (first.Tables size own) (second.Tables Sv48 root) g p frame table =
+    let (page, reads) = ((levels_are_walks napot memory root.number 4 3 (sizes_have_indices Sv48).1).0 frame).0 table in (record { root = root.number; levels = 4 }, page, refl, reads)
 
 -- an address space by its other name
 abbrev name_of : Space → AddressSpace
@@ -201,7 +201,7 @@ module _ (trusted : ℕ → Bool) (parts : BoardParts) (rows : List WalkRow) (wa
       → ((context : DeviceContext) → found ≡ Some context → Finds parts rows id context) → FoundLeaf parts.memory own found kind frame → IsInSpace S s frame kind
   leaf_found s own id None kind frame named device finds never = absurd never
   leaf_found s own id (Some context) kind frame named device finds (is, leaf) =
-      let (tables, mapping, decide, (leads, serves)) = leaf_leads parts.memory context.first_stage context.second_stage context.gscid context.pscid.number kind frame leaf in
+      let (tables, mapping, decide, (leads, serves)) = leaf_leads false parts.memory context.first_stage context.second_stage context.gscid context.pscid.number kind frame leaf in
       let (known, of, same) = space_back context.first_stage context.second_stage context own is in
       let e : s ≡ known = sym (name_back s) ∙ ap name_of (named ∙ sym same) ∙ name_back known in
       inr (
@@ -357,7 +357,7 @@ module _ (trusted : ℕ → Bool) (parts : BoardParts) (rows : List WalkRow) (wa
       → FoundTable parts.memory s found frame → IsOfTables S frame
   table_found s id None frame device finds never = absurd never
   table_found s id (Some context) frame device finds (is, table) =
-      let (tables, page, decide, reads) = table_reads parts.memory context.first_stage context.second_stage context.gscid context.pscid.number frame table in
+      let (tables, page, decide, reads) = table_reads false parts.memory context.first_stage context.second_stage context.gscid context.pscid.number frame table in
       let (known, of, same) = space_back context.first_stage context.second_stage context s is in
       (known, tables.root, steps_in (context_of context).stages, page, AtRoot id (context_of context) tables (may_find id context device (finds context refl)) of decide refl refl, reads)
 

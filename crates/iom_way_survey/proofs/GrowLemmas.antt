@@ -1,15 +1,19 @@
 -- Rows of devices that grow, one step after another.
-use Rattle.std.proofs.Common.{◌≡◌, ◌⊎◌, ◌∙◌, inl, inr, ℕ, zero, suc, ◌+◌, ◌<◌, ◌≤◌, true, List, [], ◌∷◌, length, slice_get, slice_set, get_or, Some, subst, refl, sym, ap, arith}
-use Rattle.std.proofs.lemmas.Bool.{cases_lt}
+use Rattle.std.proofs.Common.{◌≡◌, ◌⊎◌, ◌∙◌, inl, inr, ℕ, zero, suc, ◌+◌, ◌<◌, ◌≤◌, Bool, true, false, List, [], ◌∷◌, length, slice_get, slice_set, get_or, Option, None, Some, subst, refl, sym, ap, arith}
+use Rattle.std.proofs.lemmas.Bool.{cases_lt, false≢true}
 use Rattle.iom_base.specs.declared.access.AccessKind.{AccessKind}
+use Rattle.iom_board.specs.BoardParts.{BoardParts}
+use Rattle.iom_device_dir.specs.declared.context.Context.{Context as DeviceContext}
+use Rattle.iom_napot.specs.Entries.{entries_in}
 use Rattle.iom_pointers.specs.declared.pointer.Pointer.{Pointer}
-use Rattle.iom_stage_walk.specs.Entries.{entries}
-use Rattle.iom_table_survey.specs.Levels.{IsTable, IsMapped}
+use Rattle.iom_table_survey.specs.Levels.{IsTableIn, IsMappedIn}
 use Rattle.iom_table_survey.specs.Reaches.{frames_by, AddsReach, IsReachOf}
 use Rattle.iom_table_survey.specs.Rows.{row_has, GrowsBy, IsInRun}
 use Rattle.iom_table_survey.specs.declared.reach.Reach.{Reach}
-use Rattle.iom_table_survey.proofs.AddLemmas.{reach_alike, reach_next, reach_none_yet}
-use Rattle.iom_way_survey.specs.Along.{IsTableAlong, IsMappedAlong, RowGrows, RowsGrow, RowsGrowBefore}
+use Rattle.iom_table_survey.proofs.AddLemmas.{adds_none, adds_same, reach_alike, reach_next, reach_none, reach_none_yet, reach_same, reach_then}
+use Rattle.iom_tlb.specs.declared.space.Space.{Space}
+use Rattle.iom_way_survey.specs.Along.{IsTableAlong, IsMappedAlong, IsTableFound, IsReachedFound, SharesSpace, RowGrows, RowsGrow, RowsGrowBefore}
+use Rattle.iom_way_survey.specs.Found.{HaveTableIn, HaveLeafIn, IsBeside, space_of_context}
 use Rattle.iom_way_survey.specs.declared.findings.DeviceReach.{DeviceReach}
 use Rattle.iom_way_survey.proofs.LookLemmas.{same_place}
 use Rattle.iom_way_survey.proofs.StepLemmas.{at_get, get_low, reach_there}
@@ -39,17 +43,17 @@ set_long (a ∷ xs) (suc place) x = ap suc (set_long xs place x)
 
 -- ALONG ONE POINTER
 
-pub tables_along : (memory : List (List ℕ)) (pointer : Pointer) (number levels : ℕ) (old new : List ℕ) → number ≡ pointer.table.number → levels ≡ suc pointer.level
-    → GrowsBy old new (IsTable (entries memory) (IsInRun number 1) levels) → GrowsBy old new (IsTableAlong memory pointer)
-tables_along memory pointer number levels old new same many adds =
-    subst (λ (n : ℕ). GrowsBy old new (IsTable (entries memory) (IsInRun n 1) (suc pointer.level))) same
-    (subst (λ (l : ℕ). GrowsBy old new (IsTable (entries memory) (IsInRun number 1) l)) many adds)
+pub tables_along : (napot : Bool) (memory : List (List ℕ)) (pointer : Pointer) (number levels : ℕ) (old new : List ℕ) → number ≡ pointer.table.number → levels ≡ suc pointer.level
+    → GrowsBy old new (IsTableIn (entries_in napot memory) (IsInRun number 1) levels) → GrowsBy old new (IsTableAlong napot memory pointer)
+tables_along napot memory pointer number levels old new same many adds =
+    subst (λ (n : ℕ). GrowsBy old new (IsTableIn (entries_in napot memory) (IsInRun n 1) (suc pointer.level))) same
+    (subst (λ (l : ℕ). GrowsBy old new (IsTableIn (entries_in napot memory) (IsInRun number 1) l)) many adds)
 
-pub leaves_along : (memory : List (List ℕ)) (pointer : Pointer) (number levels : ℕ) (old new : Reach) → number ≡ pointer.table.number → levels ≡ suc pointer.level
-    → AddsReach old new (IsMapped (entries memory) (IsInRun number 1) levels) → AddsReach old new (IsMappedAlong memory pointer)
-leaves_along memory pointer number levels old new same many adds =
-    subst (λ (n : ℕ). AddsReach old new (IsMapped (entries memory) (IsInRun n 1) (suc pointer.level))) same
-    (subst (λ (l : ℕ). AddsReach old new (IsMapped (entries memory) (IsInRun number 1) l)) many adds)
+pub leaves_along : (napot : Bool) (memory : List (List ℕ)) (pointer : Pointer) (number levels : ℕ) (old new : Reach) → number ≡ pointer.table.number → levels ≡ suc pointer.level
+    → AddsReach old new (IsMappedIn (entries_in napot memory) (IsInRun number 1) levels) → AddsReach old new (IsMappedAlong napot memory pointer)
+leaves_along napot memory pointer number levels old new same many adds =
+    subst (λ (n : ℕ). AddsReach old new (IsMappedIn (entries_in napot memory) (IsInRun n 1) (suc pointer.level))) same
+    (subst (λ (l : ℕ). AddsReach old new (IsMappedIn (entries_in napot memory) (IsInRun number 1) l)) many adds)
 
 -- ROW BY ROW
 
@@ -137,3 +141,93 @@ grew_there xs place x old new P at grows = record {
     reach = reach_there xs place x at before.reach after.reach (λ y. P y before.id) one.reach;
   };
 }
+
+-- ONE AFTER ANOTHER
+
+-- what is new may be said in other words
+pub grew_same : (old new : List DeviceReach) (P Q : ℕ → AccessKind → ℕ → Type 0) → RowsGrow old new P → ((id : ℕ) (kind : AccessKind) (f : ℕ) → Q id kind f → P id kind f)
+    → ((id : ℕ) (kind : AccessKind) (f : ℕ) → P id kind f → Q id kind f) → RowsGrow old new Q
+grew_same old new P Q grows to from = record {
+  long = grows.long;
+  each = λ k before after here there. let one = grows.each k before after here there in record {
+    id = one.id;
+    is_trusted = one.is_trusted;
+    reach = reach_same before.reach after.reach (P before.id) (Q before.id) one.reach (to before.id) (from before.id);
+  };
+}
+
+pub grew_none : (rows : List DeviceReach) (P : ℕ → AccessKind → ℕ → Type 0) → ((id : ℕ) (kind : AccessKind) (f : ℕ) → P id kind f → ⊥) → RowsGrow rows rows P
+grew_none rows P none = record {
+  long = refl;
+  each = λ k before after here there. subst (λ (r : DeviceReach). RowGrows before r (P before.id)) (one_there rows k before after here there)
+      (record { id = refl; is_trusted = refl; reach = reach_none before.reach (P before.id) (none before.id) });
+}
+
+pub grew_then : (old between new : List DeviceReach) (P Q : ℕ → AccessKind → ℕ → Type 0) → RowsGrow old between P → RowsGrow between new Q
+    → RowsGrow old new (λ id kind f. P id kind f ⊎ Q id kind f)
+grew_then old between new P Q first second = record {
+  long = second.long ∙ first.long;
+  each = λ k before after here there.
+      let (middle, at) = same_place old between k before (sym first.long) here in
+      let one = first.each k before middle here at in
+      let two = second.each k middle after at there in record {
+        id = two.id ∙ one.id;
+        is_trusted = two.is_trusted ∙ one.is_trusted;
+        reach = reach_then before.reach middle.reach after.reach (P before.id) (Q before.id) one.reach
+            (subst (λ (id : ℕ). (kind : AccessKind) → GrowsBy (frames_by middle.reach kind) (frames_by after.reach kind) (Q id kind)) one.id two.reach);
+      };
+}
+
+-- the cached context, and the stored one where it is another: where both are the same one of them is enough
+pub beside_grew : (P : Option DeviceContext → ℕ → AccessKind → ℕ → Type 0) (cached stored beside : Option DeviceContext) (old between new : List DeviceReach)
+    → ((id : ℕ) (kind : AccessKind) (f : ℕ) → P None id kind f → ⊥) → IsBeside cached stored beside → RowsGrow old between (P cached) → RowsGrow between new (P beside)
+    → RowsGrow old new (λ id kind f. P cached id kind f ⊎ P stored id kind f)
+beside_grew P cached stored beside old between new none (inl same) first second =
+    grew_then old between new (P cached) (P stored) first (subst (λ o. RowsGrow between new (P o)) same second)
+beside_grew P cached stored beside old between new none (inr (nothing, same)) first second =
+    grew_same old new (λ id kind f. P cached id kind f ⊎ P beside id kind f) (λ id kind f. P cached id kind f ⊎ P stored id kind f)
+    (grew_then old between new (P cached) (P beside) first second) to from
+  where
+    to : (id : ℕ) (kind : AccessKind) (f : ℕ) → P cached id kind f ⊎ P stored id kind f → P cached id kind f ⊎ P beside id kind f
+    to id kind f (inl it) = inl it
+    to id kind f (inr it) = inl (subst (λ o. P o id kind f) same it)
+
+    from : (id : ℕ) (kind : AccessKind) (f : ℕ) → P cached id kind f ⊎ P beside id kind f → P cached id kind f ⊎ P stored id kind f
+    from id kind f (inl it) = inl it
+    from id kind f (inr it) = absurd (none id kind f (subst (λ o. P o id kind f) nothing it))
+
+-- FROM A CONTEXT THAT WAS FOUND
+
+module _ (parts : BoardParts) (found : Option DeviceContext) (context : DeviceContext) (is : found ≡ Some context) where
+  pub found_grew : (own : Space) (old new : List DeviceReach) → space_of_context context ≡ Some own
+      → RowsGrow old new (λ id kind f. HaveLeafIn true parts.memory context.first_stage context.second_stage kind f × SharesSpace parts own id)
+      → RowsGrow old new (IsReachedFound parts found)
+  found_grew own old new has grows = subst (λ (o : Option DeviceContext). RowsGrow old new (IsReachedFound parts o)) (sym is)
+      (grew_same old new (λ id kind f. HaveLeafIn true parts.memory context.first_stage context.second_stage kind f × SharesSpace parts own id)
+      (IsReachedFound parts (Some context)) grows
+      (λ id kind f (other, (same, leaf), shares). (leaf, subst (λ (s : Space). SharesSpace parts s id) (one_space other same) shares))
+      (λ id kind f (leaf, shares). (own, (has, leaf), shares)))
+    where
+      one_space : (other : Space) → space_of_context context ≡ Some other → other ≡ own
+      one_space other same = let both : Some other ≡ Some own = sym same ∙ has in cc
+
+  pub found_adds : (own : Space) (old new : List ℕ) → space_of_context context ≡ Some own
+      → GrowsBy old new (HaveTableIn true parts.memory context.first_stage context.second_stage) → GrowsBy old new (IsTableFound parts.memory found)
+  found_adds own old new has adds = subst (λ (o : Option DeviceContext). GrowsBy old new (IsTableFound parts.memory o)) (sym is)
+      (adds_same old new (HaveTableIn true parts.memory context.first_stage context.second_stage) (IsTableFound parts.memory (Some context)) adds
+      (λ f (other, (same, table)). table) (λ f table. (own, (has, table))))
+
+-- WHERE IT IS ASKED FOR
+
+pub grew_where : (old new : List DeviceReach) (napot : Bool) (P : ℕ → AccessKind → ℕ → Type 0) → napot ≡ true → RowsGrow old new P
+    → RowsGrow old new (λ id kind f. (napot ≡ true) × P id kind f)
+grew_where old new napot P is grows = grew_same old new P (λ id kind f. (napot ≡ true) × P id kind f) grows (λ id kind f (same, p). p) (λ id kind f p. (is, p))
+
+pub grew_else : (rows : List DeviceReach) (napot : Bool) (P : ℕ → AccessKind → ℕ → Type 0) → napot ≡ false → RowsGrow rows rows (λ id kind f. (napot ≡ true) × P id kind f)
+grew_else rows napot P is = grew_none rows (λ id kind f. (napot ≡ true) × P id kind f) (λ id kind f (same, p). false≢true (sym is ∙ same))
+
+pub adds_where_asked : (old new : List ℕ) (napot : Bool) (P : ℕ → Type 0) → napot ≡ true → GrowsBy old new P → GrowsBy old new (λ f. (napot ≡ true) × P f)
+adds_where_asked old new napot P is adds = adds_same old new P (λ f. (napot ≡ true) × P f) adds (λ f (same, p). p) (λ f p. (is, p))
+
+pub adds_else : (row : List ℕ) (napot : Bool) (P : ℕ → Type 0) → napot ≡ false → GrowsBy row row (λ f. (napot ≡ true) × P f)
+adds_else row napot P is = adds_none row (λ f. (napot ≡ true) × P f) (λ f (same, p). false≢true (sym is ∙ same))

@@ -135,24 +135,24 @@ module _ (Has : Added → Type 0) (left : (a b : Added) → Has a → Has (added
 -- the parts of a walk are the table in hand, and the second stage to come
 second_reads_from : (memory : List (List ℕ)) (size : Size) (root page frame : ℕ) → ReadsFrame entry_format (slice_get memory) root (steps_along (second_widths (levels_of size)) page) frame
     → IsTable (entries memory) (IsInRun root 4) (levels_of size) frame
-second_reads_from memory Sv39 root page frame reads = ((levels_are_walks memory root 4 2 (sizes_have_indices Sv39).1).0 frame).1 (page, reads)
-second_reads_from memory Sv48 root page frame reads = ((levels_are_walks memory root 4 3 (sizes_have_indices Sv48).1).0 frame).1 (page, reads)
+second_reads_from memory Sv39 root page frame reads = ((levels_are_walks false memory root 4 2 (sizes_have_indices Sv39).1).0 frame).1 (page, reads)
+second_reads_from memory Sv48 root page frame reads = ((levels_are_walks false memory root 4 3 (sizes_have_indices Sv48).1).0 frame).1 (page, reads)
 
 second_read_back : (memory : List (List ℕ)) (size : Size) (root frame : ℕ) → IsTable (entries memory) (IsInRun root 4) (levels_of size) frame
     → (page : ℕ) × ReadsFrame entry_format (slice_get memory) root (steps_along (second_widths (levels_of size)) page) frame
-second_read_back memory Sv39 root frame table = ((levels_are_walks memory root 4 2 (sizes_have_indices Sv39).1).0 frame).0 table
-second_read_back memory Sv48 root frame table = ((levels_are_walks memory root 4 3 (sizes_have_indices Sv48).1).0 frame).0 table
+second_read_back memory Sv39 root frame table = ((levels_are_walks false memory root 4 2 (sizes_have_indices Sv39).1).0 frame).0 table
+second_read_back memory Sv48 root frame table = ((levels_are_walks false memory root 4 3 (sizes_have_indices Sv48).1).0 frame).0 table
 
 second_leads_to : (memory : List (List ℕ)) (size : Size) (root : ℕ) (mapping : Mapping) (kind : AccessKind) (frame : ℕ)
     → LeadsToMapping formats (slice_get memory) root (steps_along (second_widths (levels_of size))) mapping → ServesKind mapping frame kind
     → IsMapped (entries memory) (IsInRun root 4) (levels_of size) kind frame
-second_leads_to memory Sv39 root mapping kind frame leads serves = ((levels_are_walks memory root 4 2 (sizes_have_indices Sv39).1).1 kind frame).1 (mapping, leads, serves)
-second_leads_to memory Sv48 root mapping kind frame leads serves = ((levels_are_walks memory root 4 3 (sizes_have_indices Sv48).1).1 kind frame).1 (mapping, leads, serves)
+second_leads_to memory Sv39 root mapping kind frame leads serves = ((levels_are_walks false memory root 4 2 (sizes_have_indices Sv39).1).1 kind frame).1 (mapping, leads, serves)
+second_leads_to memory Sv48 root mapping kind frame leads serves = ((levels_are_walks false memory root 4 3 (sizes_have_indices Sv48).1).1 kind frame).1 (mapping, leads, serves)
 
 second_lead_back : (memory : List (List ℕ)) (size : Size) (root : ℕ) (kind : AccessKind) (frame : ℕ) → IsMapped (entries memory) (IsInRun root 4) (levels_of size) kind frame
     → (mapping : Mapping) × LeadsToMapping formats (slice_get memory) root (steps_along (second_widths (levels_of size))) mapping × ServesKind mapping frame kind
-second_lead_back memory Sv39 root kind frame leaf = ((levels_are_walks memory root 4 2 (sizes_have_indices Sv39).1).1 kind frame).0 leaf
-second_lead_back memory Sv48 root kind frame leaf = ((levels_are_walks memory root 4 3 (sizes_have_indices Sv48).1).1 kind frame).0 leaf
+second_lead_back memory Sv39 root kind frame leaf = ((levels_are_walks false memory root 4 2 (sizes_have_indices Sv39).1).1 kind frame).0 leaf
+second_lead_back memory Sv48 root kind frame leaf = ((levels_are_walks false memory root 4 3 (sizes_have_indices Sv48).1).1 kind frame).0 leaf
 
 module _ (memory : List (List ℕ)) where
   abbrev PartReads : Part → ℕ → Type 0

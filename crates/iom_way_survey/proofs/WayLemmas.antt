@@ -31,18 +31,18 @@ use Rattle.iom_reach.specs.Ways.{LeadsToMapping, ServesKind, space_of, tables_of
 use Rattle.iom_registers.specs.declared.directory.DirectoryMode.{DirectoryMode}
 use Rattle.iom_registers.specs.declared.directory.DirectoryMode.TheVariants as mode
 use Rattle.iom_registers.specs.Queues.{directory_root}
-use Rattle.iom_hardware_ways.specs.Formats.{formats, entry_format, steps_in, stages_in, context_of}
+use Rattle.iom_hardware_ways.specs.Formats.{formats, entry_format, format_of, steps_in, stages_in, context_of}
 use Rattle.iom_hardware_ways.specs.Scenes.{directory_by, ats_kind, cached_space, mapping_of, kept_entry, kept_entries, said_on, message_of, flight_of, flights_in}
 use Rattle.iom_hardware_ways.proofs.DirectoryBack.{directories_are_found}
 use Rattle.iom_hardware_ways.proofs.ListLemmas.{in_none, cons_cases, map_cases}
 use Rattle.iom_hardware_ways.proofs.PageIndices.{sizes_have_indices}
 use Rattle.iom_tlb.specs.declared.space.Space.{Space}
 use Rattle.iom_tlb.specs.declared.trans_cache.Translation.{Translation}
-use Rattle.iom_way_survey.specs.Found.{has_directory, mode_in, cached_found, stored_found, sought_found, Finds, space_of_context, HaveTable, HaveLeaf, FoundTable, FoundLeaf, DeviceTable, DeviceLeaf, SpaceTable, SpaceLeaf, IsCachedIn, InSpace, IsKeptAmong, AnswersSo, IsAnsweredAmong, IsInCache, LetsKind, ByAts, ThroughSpace, ThroughFound, IsAccepted, IsThatAccess, WayOf}
+use Rattle.iom_way_survey.specs.Found.{has_directory, mode_in, cached_found, stored_found, sought_found, Finds, space_of_context, HaveTable, HaveTableIn, HaveLeaf, HaveLeafIn, FoundTable, FoundLeaf, DeviceTable, DeviceLeaf, SpaceTable, SpaceLeaf, IsCachedIn, InSpace, IsKeptAmong, AnswersSo, IsAnsweredAmong, IsInCache, LetsKind, ByAts, ThroughSpace, ThroughFound, IsAccepted, IsThatAccess, WayOf}
 use Rattle.std.proofs.lemmas.List.Elements.{Contains-append_cases}
 use Rattle.iom_hardware_ways.specs.Formats.{context_format}
 use Rattle.iom_reach.specs.Memory.{Ends}
-use Rattle.iom_way_survey.specs.Laws.{ArePlugged}
+use Rattle.iom_way_survey.specs.Laws.{ArePlugged, formats_of}
 use Rattle.iom_stepped_requests.specs.declared.request.Request.{Request}
 use Rattle.iom_stepped_requests.specs.declared.walk.RequestWalk.TheVariants.{InDirectory, InTables}
 use Rattle.iom_stepped_requests.specs.declared.walk.Serving.{Serving}
@@ -69,13 +69,13 @@ contains_get (a ∷ xs) x c = elim (cons_cases a xs x c) [
 -- A CONTEXT'S TABLES
 
 -- some walk through these stages leads to the frame, and some reads it
-abbrev pub StagesLead : List (List ℕ) → Stages → AccessKind → ℕ → Type 0
-StagesLead memory stages kind frame =
-    (tables : Tables) × (mapping : Mapping) × (tables_of stages ≡ Some tables) × (LeadsToMapping formats (slice_get memory) tables.root (steps_in stages) mapping × ServesKind mapping frame kind)
+abbrev pub StagesLead : Bool → List (List ℕ) → Stages → AccessKind → ℕ → Type 0
+StagesLead napot memory stages kind frame =
+    (tables : Tables) × (mapping : Mapping) × (tables_of stages ≡ Some tables) × (LeadsToMapping (formats_of napot) (slice_get memory) tables.root (steps_in stages) mapping × ServesKind mapping frame kind)
 
-abbrev pub StagesRead : List (List ℕ) → Stages → ℕ → Type 0
-StagesRead memory stages frame =
-    (tables : Tables) × (page : ℕ) × (tables_of stages ≡ Some tables) × ReadsFrame entry_format (slice_get memory) tables.root (steps_in stages page) frame
+abbrev pub StagesRead : Bool → List (List ℕ) → Stages → ℕ → Type 0
+StagesRead napot memory stages frame =
+    (tables : Tables) × (page : ℕ) × (tables_of stages ≡ Some tables) × ReadsFrame (format_of napot) (slice_get memory) tables.root (steps_in stages page) frame
 
 root_same : (one other : Tables) → Some one ≡ Some other → other.root ≡ one.root
 root_same one other same = let is : one ≡ other = cc in ap (λ (t : Tables). t.root) (sym is)
@@ -83,47 +83,47 @@ root_same one other same = let is : one ≡ other = cc in ap (λ (t : Tables). t
 pub none_is_some : {X : Type 0} (x : X) → None ≡ Some x → ⊥
 none_is_some x same = cc
 
-pub leads_leaf : (memory : List (List ℕ)) (f : First) (s : Second) (g p : ℕ) (kind : AccessKind) (frame : ℕ) → StagesLead memory (stages_in f s g p) kind frame → HaveLeaf memory f s kind frame
-leads_leaf memory first.Bare second.Bare g p kind frame (tables, mapping, is, leads) = absurd (none_is_some tables is)
-leads_leaf memory (first.Tables Sv39 root) second.Bare g p kind frame (tables, mapping, is, (leads, serves)) =
-    ((levels_are_walks memory root.number 1 2 (sizes_have_indices Sv39).0).1 kind frame).1
-    (mapping, subst (λ (r : ℕ). LeadsToMapping formats (slice_get memory) r (steps_in (stages_in (first.Tables Sv39 root) second.Bare g p)) mapping) (root_same _ tables is) leads, serves)
-leads_leaf memory (first.Tables Sv48 root) second.Bare g p kind frame (tables, mapping, is, (leads, serves)) =
-    ((levels_are_walks memory root.number 1 3 (sizes_have_indices Sv48).0).1 kind frame).1
-    (mapping, subst (λ (r : ℕ). LeadsToMapping formats (slice_get memory) r (steps_in (stages_in (first.Tables Sv48 root) second.Bare g p)) mapping) (root_same _ tables is) leads, serves)
-leads_leaf memory first.Bare (second.Tables Sv39 root) g p kind frame (tables, mapping, is, (leads, serves)) =
-    ((levels_are_walks memory root.number 4 2 (sizes_have_indices Sv39).1).1 kind frame).1
-    (mapping, subst (λ (r : ℕ). LeadsToMapping formats (slice_get memory) r (steps_in (stages_in first.Bare (second.Tables Sv39 root) g p)) mapping) (root_same _ tables is) leads, serves)
-leads_leaf memory first.Bare (second.Tables Sv48 root) g p kind frame (tables, mapping, is, (leads, serves)) =
-    ((levels_are_walks memory root.number 4 3 (sizes_have_indices Sv48).1).1 kind frame).1
-    (mapping, subst (λ (r : ℕ). LeadsToMapping formats (slice_get memory) r (steps_in (stages_in first.Bare (second.Tables Sv48 root) g p)) mapping) (root_same _ tables is) leads, serves)
-leads_leaf memory (first.Tables size own) (second.Tables Sv39 root) g p kind frame (tables, mapping, is, (leads, serves)) =
-    ((levels_are_walks memory root.number 4 2 (sizes_have_indices Sv39).1).1 kind frame).1
-    (mapping, subst (λ (r : ℕ). LeadsToMapping formats (slice_get memory) r (steps_in (stages_in (first.Tables size own) (second.Tables Sv39 root) g p)) mapping) (root_same _ tables is) leads, serves)
-leads_leaf memory (first.Tables size own) (second.Tables Sv48 root) g p kind frame (tables, mapping, is, (leads, serves)) =
-    ((levels_are_walks memory root.number 4 3 (sizes_have_indices Sv48).1).1 kind frame).1
-    (mapping, subst (λ (r : ℕ). LeadsToMapping formats (slice_get memory) r (steps_in (stages_in (first.Tables size own) (second.Tables Sv48 root) g p)) mapping) (root_same _ tables is) leads, serves)
+pub leads_leaf : (napot : Bool) (memory : List (List ℕ)) (f : First) (s : Second) (g p : ℕ) (kind : AccessKind) (frame : ℕ) → StagesLead napot memory (stages_in f s g p) kind frame → HaveLeafIn napot memory f s kind frame
+leads_leaf napot memory first.Bare second.Bare g p kind frame (tables, mapping, is, leads) = absurd (none_is_some tables is)
+leads_leaf napot memory (first.Tables Sv39 root) second.Bare g p kind frame (tables, mapping, is, (leads, serves)) =
+    ((levels_are_walks napot memory root.number 1 2 (sizes_have_indices Sv39).0).1 kind frame).1
+    (mapping, subst (λ (r : ℕ). LeadsToMapping (formats_of napot) (slice_get memory) r (steps_in (stages_in (first.Tables Sv39 root) second.Bare g p)) mapping) (root_same _ tables is) leads, serves)
+leads_leaf napot memory (first.Tables Sv48 root) second.Bare g p kind frame (tables, mapping, is, (leads, serves)) =
+    ((levels_are_walks napot memory root.number 1 3 (sizes_have_indices Sv48).0).1 kind frame).1
+    (mapping, subst (λ (r : ℕ). LeadsToMapping (formats_of napot) (slice_get memory) r (steps_in (stages_in (first.Tables Sv48 root) second.Bare g p)) mapping) (root_same _ tables is) leads, serves)
+leads_leaf napot memory first.Bare (second.Tables Sv39 root) g p kind frame (tables, mapping, is, (leads, serves)) =
+    ((levels_are_walks napot memory root.number 4 2 (sizes_have_indices Sv39).1).1 kind frame).1
+    (mapping, subst (λ (r : ℕ). LeadsToMapping (formats_of napot) (slice_get memory) r (steps_in (stages_in first.Bare (second.Tables Sv39 root) g p)) mapping) (root_same _ tables is) leads, serves)
+leads_leaf napot memory first.Bare (second.Tables Sv48 root) g p kind frame (tables, mapping, is, (leads, serves)) =
+    ((levels_are_walks napot memory root.number 4 3 (sizes_have_indices Sv48).1).1 kind frame).1
+    (mapping, subst (λ (r : ℕ). LeadsToMapping (formats_of napot) (slice_get memory) r (steps_in (stages_in first.Bare (second.Tables Sv48 root) g p)) mapping) (root_same _ tables is) leads, serves)
+leads_leaf napot memory (first.Tables size own) (second.Tables Sv39 root) g p kind frame (tables, mapping, is, (leads, serves)) =
+    ((levels_are_walks napot memory root.number 4 2 (sizes_have_indices Sv39).1).1 kind frame).1
+    (mapping, subst (λ (r : ℕ). LeadsToMapping (formats_of napot) (slice_get memory) r (steps_in (stages_in (first.Tables size own) (second.Tables Sv39 root) g p)) mapping) (root_same _ tables is) leads, serves)
+leads_leaf napot memory (first.Tables size own) (second.Tables Sv48 root) g p kind frame (tables, mapping, is, (leads, serves)) =
+    ((levels_are_walks napot memory root.number 4 3 (sizes_have_indices Sv48).1).1 kind frame).1
+    (mapping, subst (λ (r : ℕ). LeadsToMapping (formats_of napot) (slice_get memory) r (steps_in (stages_in (first.Tables size own) (second.Tables Sv48 root) g p)) mapping) (root_same _ tables is) leads, serves)
 
-pub reads_table_of : (memory : List (List ℕ)) (f : First) (s : Second) (g p : ℕ) (frame : ℕ) → StagesRead memory (stages_in f s g p) frame → HaveTable memory f s frame
-reads_table_of memory first.Bare second.Bare g p frame (tables, page, is, reads) = absurd (none_is_some tables is)
-reads_table_of memory (first.Tables Sv39 root) second.Bare g p frame (tables, page, is, reads) =
-    ((levels_are_walks memory root.number 1 2 (sizes_have_indices Sv39).0).0 frame).1
-    (page, subst (λ (r : ℕ). ReadsFrame entry_format (slice_get memory) r (steps_in (stages_in (first.Tables Sv39 root) second.Bare g p) page) frame) (root_same _ tables is) reads)
-reads_table_of memory (first.Tables Sv48 root) second.Bare g p frame (tables, page, is, reads) =
-    ((levels_are_walks memory root.number 1 3 (sizes_have_indices Sv48).0).0 frame).1
-    (page, subst (λ (r : ℕ). ReadsFrame entry_format (slice_get memory) r (steps_in (stages_in (first.Tables Sv48 root) second.Bare g p) page) frame) (root_same _ tables is) reads)
-reads_table_of memory first.Bare (second.Tables Sv39 root) g p frame (tables, page, is, reads) =
-    ((levels_are_walks memory root.number 4 2 (sizes_have_indices Sv39).1).0 frame).1
-    (page, subst (λ (r : ℕ). ReadsFrame entry_format (slice_get memory) r (steps_in (stages_in first.Bare (second.Tables Sv39 root) g p) page) frame) (root_same _ tables is) reads)
-reads_table_of memory first.Bare (second.Tables Sv48 root) g p frame (tables, page, is, reads) =
-    ((levels_are_walks memory root.number 4 3 (sizes_have_indices Sv48).1).0 frame).1
-    (page, subst (λ (r : ℕ). ReadsFrame entry_format (slice_get memory) r (steps_in (stages_in first.Bare (second.Tables Sv48 root) g p) page) frame) (root_same _ tables is) reads)
-reads_table_of memory (first.Tables size own) (second.Tables Sv39 root) g p frame (tables, page, is, reads) =
-    ((levels_are_walks memory root.number 4 2 (sizes_have_indices Sv39).1).0 frame).1
-    (page, subst (λ (r : ℕ). ReadsFrame entry_format (slice_get memory) r (steps_in (stages_in (first.Tables size own) (second.Tables Sv39 root) g p) page) frame) (root_same _ tables is) reads)
-reads_table_of memory (first.Tables size own) (second.Tables Sv48 root) g p frame (tables, page, is, reads) =
-    ((levels_are_walks memory root.number 4 3 (sizes_have_indices Sv48).1).0 frame).1
-    (page, subst (λ (r : ℕ). ReadsFrame entry_format (slice_get memory) r (steps_in (stages_in (first.Tables size own) (second.Tables Sv48 root) g p) page) frame) (root_same _ tables is) reads)
+pub reads_table_of : (napot : Bool) (memory : List (List ℕ)) (f : First) (s : Second) (g p : ℕ) (frame : ℕ) → StagesRead napot memory (stages_in f s g p) frame → HaveTableIn napot memory f s frame
+reads_table_of napot memory first.Bare second.Bare g p frame (tables, page, is, reads) = absurd (none_is_some tables is)
+reads_table_of napot memory (first.Tables Sv39 root) second.Bare g p frame (tables, page, is, reads) =
+    ((levels_are_walks napot memory root.number 1 2 (sizes_have_indices Sv39).0).0 frame).1
+    (page, subst (λ (r : ℕ). ReadsFrame (format_of napot) (slice_get memory) r (steps_in (stages_in (first.Tables Sv39 root) second.Bare g p) page) frame) (root_same _ tables is) reads)
+reads_table_of napot memory (first.Tables Sv48 root) second.Bare g p frame (tables, page, is, reads) =
+    ((levels_are_walks napot memory root.number 1 3 (sizes_have_indices Sv48).0).0 frame).1
+    (page, subst (λ (r : ℕ). ReadsFrame (format_of napot) (slice_get memory) r (steps_in (stages_in (first.Tables Sv48 root) second.Bare g p) page) frame) (root_same _ tables is) reads)
+reads_table_of napot memory first.Bare (second.Tables Sv39 root) g p frame (tables, page, is, reads) =
+    ((levels_are_walks napot memory root.number 4 2 (sizes_have_indices Sv39).1).0 frame).1
+    (page, subst (λ (r : ℕ). ReadsFrame (format_of napot) (slice_get memory) r (steps_in (stages_in first.Bare (second.Tables Sv39 root) g p) page) frame) (root_same _ tables is) reads)
+reads_table_of napot memory first.Bare (second.Tables Sv48 root) g p frame (tables, page, is, reads) =
+    ((levels_are_walks napot memory root.number 4 3 (sizes_have_indices Sv48).1).0 frame).1
+    (page, subst (λ (r : ℕ). ReadsFrame (format_of napot) (slice_get memory) r (steps_in (stages_in first.Bare (second.Tables Sv48 root) g p) page) frame) (root_same _ tables is) reads)
+reads_table_of napot memory (first.Tables size own) (second.Tables Sv39 root) g p frame (tables, page, is, reads) =
+    ((levels_are_walks napot memory root.number 4 2 (sizes_have_indices Sv39).1).0 frame).1
+    (page, subst (λ (r : ℕ). ReadsFrame (format_of napot) (slice_get memory) r (steps_in (stages_in (first.Tables size own) (second.Tables Sv39 root) g p) page) frame) (root_same _ tables is) reads)
+reads_table_of napot memory (first.Tables size own) (second.Tables Sv48 root) g p frame (tables, page, is, reads) =
+    ((levels_are_walks napot memory root.number 4 3 (sizes_have_indices Sv48).1).0 frame).1
+    (page, subst (λ (r : ℕ). ReadsFrame (format_of napot) (slice_get memory) r (steps_in (stages_in (first.Tables size own) (second.Tables Sv48 root) g p) page) frame) (root_same _ tables is) reads)
 
 -- the address space by its two names
 pub spaces_by : (f : First) (s : Second) (context : DeviceContext) → option_map cached_space (space_of (stages_in f s context.gscid context.pscid.number)) ≡ space_through f s context
@@ -286,7 +286,7 @@ module _ (trusted : ℕ → Bool) (parts : BoardParts) (rows : List WalkRow) (wa
           plug,
           here,
           leaf_of_device (cached_space s) plug.id own kind frame (subst (λ i. Finds parts rows i own) (sym same) finds) named
-              (leads_leaf parts.memory own.first_stage own.second_stage own.gscid own.pscid.number kind frame (tables, mapping, decide, (leads', serves))),
+              (leads_leaf false parts.memory own.first_stage own.second_stage own.gscid own.pscid.number kind frame (tables, mapping, decide, (leads', serves))),
         ),
       )
 
@@ -442,7 +442,7 @@ module _ (trusted : ℕ → Bool) (parts : BoardParts) (rows : List WalkRow) (wa
               plug,
               here,
               table_of_device (cached_space s) plug.id own frame (subst (λ i. Finds parts rows i own) (sym same) finds) named
-                  (reads_table_of parts.memory own.first_stage own.second_stage own.gscid own.pscid.number frame (tables, page, decide, reads')),
+                  (reads_table_of false parts.memory own.first_stage own.second_stage own.gscid own.pscid.number frame (tables, page, decide, reads')),
             ),
           )
       by (inr (id, plug, at, (request, context, kept_in, stands, part, among, (is_table, (is_steps, (named, under_way)))))) =

@@ -28,8 +28,8 @@ use Rattle.iom_inflight.specs.declared.made.MadeAt.{MadeAt}
 use Rattle.iom_registers.specs.declared.directory.DirectoryMode.{DirectoryMode}
 use Rattle.iom_registers.specs.declared.directory.DirectoryMode.TheVariants as mode
 use Rattle.iom_registers.specs.Queues.{directory_mode, directory_root}
-use Rattle.iom_stage_walk.specs.Entries.{entries}
-use Rattle.iom_table_survey.specs.Levels.{IsTable, IsMapped}
+use Rattle.iom_napot.specs.Entries.{entries_in}
+use Rattle.iom_table_survey.specs.Levels.{IsTableIn, IsMappedIn}
 use Rattle.iom_table_survey.specs.Rows.{IsInRun}
 use Rattle.iom_tlb.specs.declared.space.Space.{Space}
 use Rattle.iom_tlb.specs.declared.cached_page.CachedPage.{CachedPage}
@@ -74,29 +74,42 @@ IsBeside cached stored beside = (beside ≡ stored) ⊎ ((beside ≡ None) × (s
 abbrev pub space_of_context : DeviceContext → Option Space
 space_of_context context = space_through context.first_stage context.second_stage context
 
--- the tables of these stages that decide, of which the root of a second stage has four frames, have the frame
-abbrev pub HaveTable : List (List ℕ) → First → Second → ℕ → Type 0
-HaveTable memory first.Bare second.Bare frame = ⊥
-HaveTable memory (first.Tables size root) second.Bare frame = IsTable (entries memory) (IsInRun root.number 1) (levels_of size) frame
-HaveTable memory one (second.Tables size root) frame = IsTable (entries memory) (IsInRun root.number 4) (levels_of size) frame
+-- the tables of these stages that decide, of which the root of a second stage has four frames, have the frame; where walks know leaves of 64 KiB, or don't
+abbrev pub HaveTableIn : Bool → List (List ℕ) → First → Second → ℕ → Type 0
+HaveTableIn napot memory first.Bare second.Bare frame = ⊥
+HaveTableIn napot memory (first.Tables size root) second.Bare frame = IsTableIn (entries_in napot memory) (IsInRun root.number 1) (levels_of size) frame
+HaveTableIn napot memory one (second.Tables size root) frame = IsTableIn (entries_in napot memory) (IsInRun root.number 4) (levels_of size) frame
 
 -- they map it, for this kind of access
-abbrev pub HaveLeaf : List (List ℕ) → First → Second → AccessKind → ℕ → Type 0
-HaveLeaf memory first.Bare second.Bare kind frame = ⊥
-HaveLeaf memory (first.Tables size root) second.Bare kind frame = IsMapped (entries memory) (IsInRun root.number 1) (levels_of size) kind frame
-HaveLeaf memory one (second.Tables size root) kind frame = IsMapped (entries memory) (IsInRun root.number 4) (levels_of size) kind frame
+abbrev pub HaveLeafIn : Bool → List (List ℕ) → First → Second → AccessKind → ℕ → Type 0
+HaveLeafIn napot memory first.Bare second.Bare kind frame = ⊥
+HaveLeafIn napot memory (first.Tables size root) second.Bare kind frame = IsMappedIn (entries_in napot memory) (IsInRun root.number 1) (levels_of size) kind frame
+HaveLeafIn napot memory one (second.Tables size root) kind frame = IsMappedIn (entries_in napot memory) (IsInRun root.number 4) (levels_of size) kind frame
 
 -- CONTEXTS THAT ARE FOUND
 
 -- a context was found, it has this address space, and its tables have the frame
-abbrev pub FoundTable : List (List ℕ) → Space → Option DeviceContext → ℕ → Type 0
-FoundTable memory own None frame = ⊥
-FoundTable memory own (Some context) frame = (space_of_context context ≡ Some own) × HaveTable memory context.first_stage context.second_stage frame
+abbrev pub FoundTableIn : Bool → List (List ℕ) → Space → Option DeviceContext → ℕ → Type 0
+FoundTableIn napot memory own None frame = ⊥
+FoundTableIn napot memory own (Some context) frame = (space_of_context context ≡ Some own) × HaveTableIn napot memory context.first_stage context.second_stage frame
 
 -- they map it
+abbrev pub FoundLeafIn : Bool → List (List ℕ) → Space → Option DeviceContext → AccessKind → ℕ → Type 0
+FoundLeafIn napot memory own None kind frame = ⊥
+FoundLeafIn napot memory own (Some context) kind frame = (space_of_context context ≡ Some own) × HaveLeafIn napot memory context.first_stage context.second_stage kind frame
+
+-- the same where walks don't know leaves of 64 KiB
+abbrev pub HaveTable : List (List ℕ) → First → Second → ℕ → Type 0
+HaveTable = HaveTableIn false
+
+abbrev pub HaveLeaf : List (List ℕ) → First → Second → AccessKind → ℕ → Type 0
+HaveLeaf = HaveLeafIn false
+
+abbrev pub FoundTable : List (List ℕ) → Space → Option DeviceContext → ℕ → Type 0
+FoundTable = FoundTableIn false
+
 abbrev pub FoundLeaf : List (List ℕ) → Space → Option DeviceContext → AccessKind → ℕ → Type 0
-FoundLeaf memory own None kind frame = ⊥
-FoundLeaf memory own (Some context) kind frame = (space_of_context context ≡ Some own) × HaveLeaf memory context.first_stage context.second_stage kind frame
+FoundLeaf = FoundLeafIn false
 
 -- so of one of the contexts that are looked up for the device
 abbrev pub LookedUpTable : BoardParts → Space → ℕ → ℕ → Type 0

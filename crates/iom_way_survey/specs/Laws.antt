@@ -2,10 +2,10 @@
 use Rattle.std.specs.Prelude.{◌≡◌, ◌↔◌, ◌*◌, ◌≤◌, ℕ, Bool, List, ◌∷◌, length, replicate, slice_get, Contains, suc, Some}
 use Rattle.iom_base.specs.declared.access.AccessKind.{AccessKind}
 use Rattle.iom_base.specs.Tables.{table_entries}
-use Rattle.iom_stage_walk.specs.Entries.{entries}
+use Rattle.iom_napot.specs.Entries.{entries_in}
 use Rattle.iom_reach.specs.Memory.{ReadsFrame}
 use Rattle.iom_reach.specs.Safe.{IsOfTables, IsOfDirectory}
-use Rattle.iom_reach.specs.Scene.{Mapping}
+use Rattle.iom_reach.specs.Scene.{Mapping, Formats}
 use Rattle.iom_reach.specs.Ways.{LeadsToMapping, ServesKind, Way}
 use Rattle.iom_device.specs.Caches.{device_with}
 use Rattle.iom_device.specs.declared.device.Device.{Device}
@@ -18,27 +18,33 @@ use Rattle.iom_stepped_ways.specs.Scenes.{stepped_scene}
 use Rattle.iom_way_survey.specs.Directories.{DirectoryReads}
 use Rattle.iom_way_survey.specs.Found.{WayOf, SomeTable}
 use Rattle.iom_way_survey.specs.Queues.{IsOfFaults}
-use Rattle.iom_hardware_ways.specs.Formats.{entry_format, steps_along, formats}
+use Rattle.iom_hardware_ways.specs.Formats.{format_of, steps_along, formats}
 use Rattle.iom_hardware_ways.specs.Laws.{PagesAreIndices}
-use Rattle.iom_table_survey.specs.Levels.{IsTable, IsMapped}
+use Rattle.iom_table_survey.specs.Levels.{IsTableIn, IsMappedIn}
 use Rattle.iom_table_survey.specs.Rows.{IsInRun}
 
 -- a root of so many frames, and below it tables of one frame each
 abbrev pub widths_from : ℕ → ℕ → List ℕ
 widths_from frames below = (table_entries * frames) ∷ replicate below table_entries
 
+-- memory as hardware reads it whose walks know leaves of 64 KiB, or don't
+abbrev pub formats_of : Bool → Formats
+formats_of napot = record formats { entry = format_of napot }
+
 -- some walk from the root leads to the frame, for this kind of access
-abbrev pub IsLedTo : List (List ℕ) → ℕ → List ℕ → AccessKind → ℕ → Type 0
-IsLedTo memory root widths kind frame = (mapping : Mapping) × LeadsToMapping formats (slice_get memory) root (steps_along widths) mapping × ServesKind mapping frame kind
+abbrev pub IsLedTo : Bool → List (List ℕ) → ℕ → List ℕ → AccessKind → ℕ → Type 0
+IsLedTo napot memory root widths kind frame =
+    (mapping : Mapping) × LeadsToMapping (formats_of napot) (slice_get memory) root (steps_along widths) mapping × ServesKind mapping frame kind
 
 -- some walk from the root reads the frame
-abbrev pub IsReadBelow : List (List ℕ) → ℕ → List ℕ → ℕ → Type 0
-IsReadBelow memory root widths frame = (page : ℕ) × ReadsFrame entry_format (slice_get memory) root (steps_along widths page) frame
+abbrev pub IsReadBelow : Bool → List (List ℕ) → ℕ → List ℕ → ℕ → Type 0
+IsReadBelow napot memory root widths frame = (page : ℕ) × ReadsFrame (format_of napot) (slice_get memory) root (steps_along widths page) frame
 
 abbrev pub LevelsAreWalks : Type 0
-LevelsAreWalks = (memory : List (List ℕ)) (root frames below : ℕ) → PagesAreIndices (widths_from frames below)
-    → ((frame : ℕ) → IsTable (entries memory) (IsInRun root frames) (suc below) frame ↔ IsReadBelow memory root (widths_from frames below) frame)
-    × ((kind : AccessKind) (frame : ℕ) → IsMapped (entries memory) (IsInRun root frames) (suc below) kind frame ↔ IsLedTo memory root (widths_from frames below) kind frame)
+LevelsAreWalks = (napot : Bool) (memory : List (List ℕ)) (root frames below : ℕ) → PagesAreIndices (widths_from frames below)
+    → ((frame : ℕ) → IsTableIn (entries_in napot memory) (IsInRun root frames) (suc below) frame ↔ IsReadBelow napot memory root (widths_from frames below) frame)
+    × ((kind : AccessKind) (frame : ℕ) → IsMappedIn (entries_in napot memory) (IsInRun root frames) (suc below) kind frame
+    ↔ IsLedTo napot memory root (widths_from frames below) kind frame)
 
 -- each device of which a request is under way is plugged in
 abbrev pub ArePlugged : BoardParts → List WalkRow → Type 0

@@ -4,7 +4,7 @@ ghost use Rattle.iom_board.specs.BoardParts.{board_parts};
 ghost use Rattle.iom_iommu.specs.Stages.{space_through};
 ghost use Rattle.iom_table_survey.specs.Reaches.{AddsReach};
 ghost use Rattle.iom_table_survey.specs.Rows.{GrowsBy};
-ghost use Rattle.iom_way_survey.specs.Found.{has_directory, cached_found, stored_found, space_of_context, HaveTable, HaveLeaf, FoundTable, FoundLeaf, IsBeside};
+ghost use Rattle.iom_way_survey.specs.Found.{has_directory, cached_found, stored_found, space_of_context, HaveTableIn, HaveLeafIn, FoundTable, FoundLeaf, IsBeside};
 ghost use Rattle.iom_way_survey.specs.Walking.{sought_by};
 
 use crate::same::is_same;
@@ -117,22 +117,25 @@ pub(crate) fn space_of(context: &Context) -> Option<Space>
     }
 }
 
-/// The tables that decide where the stages lead: of both stages those of the second.
-fn survey_stages(
+/// The tables that decide where the stages lead: of both stages those of the second; where walks know leaves of 64 KiB, or
+/// don't.
+pub(crate) fn survey_stages(
     memory: &Memory,
+    napot: bool,
     first: FirstStage,
     second: SecondStage,
     tables: &mut FrameRow,
     reach: &mut Reach,
 )
     requires { length memory.now ≤ 4096 }
-    ensures tables { GrowsBy tables.old tables.new (HaveTable memory.now first second) }
-    ensures leaves { AddsReach reach.old reach.new (HaveLeaf memory.now first second) }
+    ensures tables { GrowsBy tables.old tables.new (HaveTableIn napot memory.now first second) }
+    ensures leaves { AddsReach reach.old reach.new (HaveLeafIn napot memory.now first second) }
 {
     match second {
         SecondStage::Tables { size, root } => {
             survey(
                 memory,
+                napot,
                 root.number(),
                 4,
                 size.levels() as u32,
@@ -144,6 +147,7 @@ fn survey_stages(
             if let FirstStage::Tables { size, root } = first {
                 survey(
                     memory,
+                    napot,
                     root.number(),
                     1,
                     size.levels() as u32,
@@ -171,6 +175,7 @@ pub(crate) fn survey_found(
         if space_of(&context) == Some(space) {
             survey_stages(
                 memory,
+                false,
                 context.first_stage,
                 context.second_stage,
                 tables,

@@ -7,12 +7,14 @@
 //! what of them is looked for: tables level by level, contexts, what is cached, accesses in flight. `specs/Walking.antt` says
 //! it of a request that is under way: the one path from its table in hand, the whole second stage while the guest's tables
 //! may name any page, the context at the end of its way through the directory, the access that its answer lets through. The
-//! layers above may rely on [`Survey::look`] to miss no way and no frame that hardware reads or stores into, and on
+//! layers above may rely on [`Survey::look`] to miss no way and no frame that hardware reads or stores into, on
+//! [`Survey::look_along`] to miss none of the ways that cached pointers and leaves of 64 KiB add, and on
 //! [`Survey::is_safe`] to be true only where nobody but software can write what hardware reads; and on [`laws`]: what is
 //! looked for is each way of a device, and nothing else.
 #![tactic(auto)]
 
 mod along;
+mod context_tables;
 mod contexts;
 mod devices;
 mod directory;

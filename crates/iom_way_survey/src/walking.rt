@@ -98,7 +98,7 @@ fn survey_to_come(
 {
     if let Some(own) = second {
         let levels = own.size.levels() as u32;
-        survey(memory, own.root.number(), 4, levels, tables, reach);
+        survey(memory, false, own.root.number(), 4, levels, tables, reach);
     }
 }
 

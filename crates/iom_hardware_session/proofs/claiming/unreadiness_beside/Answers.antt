@@ -8,5 +8,5 @@ use Rattle.iom_hardware_session.proofs.claiming.unreadiness_beside.Goals as goal
 
 pub returns-in-Pointers-clause-none : goal.returns-in-Pointers-clause-none
 returns-in-Pointers-clause-none c =
-    subst (λ (beside : Beside). IfNone c.unreadiness_by_pointer.result ((kind : AccessKind) → allows c.args.rights kind ≡ true
-    → PointersLead beside (board_parts c.args.hardware.now) c.args.device c.args.page c.args.frame kind)) (sym c.in-Pointers.is) c.unreadiness_by_pointer.ensures.none
+    subst (λ (beside : Beside). IfNone c.unreadiness_ahead.result ((kind : AccessKind) → allows c.args.rights kind ≡ true
+    → PointersLead beside (board_parts c.args.hardware.now) c.args.device c.args.page c.args.frame kind)) (sym c.in-Pointers.is) c.unreadiness_ahead.ensures.none

@@ -7,5 +7,5 @@ use Rattle.iom_hardware_session.proofs.ready.unreadiness.Goals as goal
 
 pub returns-clause-none : goal.returns-clause-none
 returns-clause-none c =
-    of_both_kinds (λ kind. allows c.args.rights kind ≡ true → FindsFrame (board_parts c.args.hardware.now) c.args.device c.args.page c.args.frame kind) c.in_default.ensures.none
-    c.in_default-found_against.ensures.none
+    of_both_kinds (λ kind. allows c.args.rights kind ≡ true → FindsFrame c.args.napot (board_parts c.args.hardware.now) c.args.device c.args.page c.args.frame kind) c.in_default.ensures.none
+    c.in_default-writes.ensures.none

@@ -7,7 +7,7 @@ use Rattle.iom_way_survey.proofs.along.look_along_one.Goals as goal
 
 pub returns-clause-rows : goal.returns-clause-rows
 returns-clause-rows c =
-    grew_by_all c.args.rows.now c.widen_rows.new.rows c.survey_along.new.reach (IsMappedAlong c.args.hardware.now.memory c.args.pointer)
+    grew_by_all c.args.rows.now c.widen_rows.new.rows c.survey_along.new.reach (IsMappedAlong c.args.napot c.args.hardware.now.memory c.args.pointer)
     (SharesSpace (board_parts c.args.hardware.now) c.args.pointer.space) c.widen_rows.ensures
-    (λ kind. of_none (frames_by c.new-reach.result kind) (frames_by c.survey_along.new.reach kind) (IsMappedAlong c.args.hardware.now.memory c.args.pointer kind)
+    (λ kind. of_none (frames_by c.new-reach.result kind) (frames_by c.survey_along.new.reach kind) (IsMappedAlong c.args.napot c.args.hardware.now.memory c.args.pointer kind)
     (c.new-reach.ensures kind) (c.survey_along.ensures.leaves kind))

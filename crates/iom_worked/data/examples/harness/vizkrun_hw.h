@@ -51,7 +51,8 @@ __attribute__((format(printf, 2, 3))) static inline const char *hw_say(struct hw
 	hw_fail("the program gives no answer", line);
 }
 
-/* Starts the program, with the hardware that these words ask for: "64", "64 stepped" or "64 nonleaf". The session goes to the file `log`, where that isn't NULL. */
+/* Starts the program, with the hardware that these words ask for: "64", "64 stepped", "64 nonleaf",
+   "64 napot" or "64 nonleaf napot". The session goes to the file `log`, where that isn't NULL. */
 static inline void hw_start_with(struct hw *hw, const char *program, const char *log, const char *hardware)
 {
 	int to[2], from[2];

@@ -7,10 +7,10 @@ use Rattle.iom_way_survey.proofs.findings.Survey.look_along.Goals as goal
 
 pub returns-clause-missed : goal.returns-clause-missed
 returns-clause-missed c = λ trusted surveys.
-    subst (λ (pointers : List Pointer). Surveys c.add_along.new.self (pointed_scene trusted (board_parts c.args.hardware.now) pointers)) c.as_slice.ensures
+    subst (λ (pointers : List Pointer). Surveys c.add_along.new.self (pointed_scene c.args.napot trusted (board_parts c.args.hardware.now) pointers)) c.as_slice.ensures
     (c.add_along.ensures.missed trusted surveys.rows surveys)
 
 pub returns-clause-invented : goal.returns-clause-invented
 returns-clause-invented c = λ trusted invents.
-    subst (λ (pointers : List Pointer). InventsNone c.add_along.new.self (pointed_scene trusted (board_parts c.args.hardware.now) pointers)) c.as_slice.ensures
+    subst (λ (pointers : List Pointer). InventsNone c.add_along.new.self (pointed_scene c.args.napot trusted (board_parts c.args.hardware.now) pointers)) c.as_slice.ensures
     (c.add_along.ensures.invented trusted invents)

@@ -3,9 +3,9 @@ use Rattle.iom_base.specs.Rights.{allows}
 use Rattle.iom_board.specs.BoardParts.{board_parts}
 use Rattle.iom_hardware_session.specs.ReadyPointed.{LeadsToFrame}
 use Rattle.iom_hardware_session.proofs.ReadyLemmas.{of_both_kinds}
-use Rattle.iom_hardware_session.proofs.ready.unreadiness_by_pointer.Goals as goal
+use Rattle.iom_hardware_session.proofs.ready.unreadiness_ahead.Goals as goal
 
 pub returns-clause-none : goal.returns-clause-none
 returns-clause-none c =
-    of_both_kinds (λ kind. allows c.args.rights kind ≡ true → LeadsToFrame (board_parts c.args.hardware.now) c.args.pointers.now c.args.device c.args.page c.args.frame kind)
-    c.in_default.ensures.none c.in_default-led_against.ensures.none
+    of_both_kinds (λ kind. allows c.args.rights kind ≡ true → LeadsToFrame c.args.napot (board_parts c.args.hardware.now) c.args.pointers.now c.args.device c.args.page c.args.frame kind)
+    c.in_default.ensures.none c.in_default-writes.ensures.none
