@@ -1,7 +1,7 @@
 // The forms that lines have.
 
 /// The forms of lines, as docs/LANGUAGE.md names their words. Those in capitals stand for others. The last one is no event.
-pub static SCRIPT_FORMS: [&str; 37] = [
+pub(crate) static SCRIPT_FORMS: [&str; 37] = [
     "device ID raw",
     "device ID ats",
     "device ID blk K",
@@ -45,7 +45,7 @@ pub static SCRIPT_FORMS: [&str; 37] = [
 pub(crate) const EVENTS: usize = 36;
 
 /// The form of the first line of a script that says something.
-pub static FIRST: [&str; 1] = ["world F L"];
+pub(crate) static FIRST: [&str; 1] = ["world F L"];
 
 /// Those of the first line of a trace that says something, before its answer. The second one sets limits aside.
 pub(crate) static TRACE_FIRST: [&str; 2] = ["world F L", "world F L unlimited"];
@@ -62,10 +62,12 @@ pub(crate) static TRACE_FORMS: [&str; 7] = [
 ];
 
 /// The forms of the first line of a driver under test that says something.
-pub(crate) static HARDWARE_FIRST: [&str; 3] = [
+pub(crate) static HARDWARE_FIRST: [&str; 5] = [
     "hardware F",
     "hardware F stepped",
     "hardware F nonleaf",
+    "hardware F napot",
+    "hardware F nonleaf napot",
 ];
 
 /// The forms of a driver's lines, and of those of devices and hardware, as docs/DRIVER.md names their words.

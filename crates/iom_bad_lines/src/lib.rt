@@ -8,13 +8,15 @@
 
 mod forms;
 mod hardware;
+mod limits;
 mod lines;
 mod places;
+mod scripts;
 mod traces;
 mod words;
 
-pub use forms::{FIRST, SCRIPT_FORMS};
 pub use hardware::explain_hardware_line;
-pub use lines::{is_first_spoken, line_at, wrong_end};
-pub use places::{WrongPlace, explain};
+pub use lines::{is_first_spoken, is_past_limit, line_at, wrong_end};
+pub use places::WrongPlace;
+pub use scripts::explain_script_line;
 pub use traces::explain_trace_line;

@@ -1,5 +1,5 @@
 // Lines of a text, by their numbers, which are counted from 1.
-use iom_script::is_spoken;
+use iom_script::{SCRIPT_LIMIT, is_spoken};
 
 /// The line. Empty where there are fewer.
 pub fn line_at(text: &str, place: usize) -> &str {
@@ -10,6 +10,15 @@ pub fn line_at(text: &str, place: usize) -> &str {
 pub fn is_first_spoken(text: &str, place: usize) -> bool {
     let before = text.lines().take(place.saturating_sub(1));
     !before.into_iter().any(|line| is_spoken(line.as_bytes()))
+}
+
+/// Whether the line goes beyond the bytes that a script may have.
+pub fn is_past_limit(text: &str, place: usize) -> bool {
+    let mut end: usize = 0;
+    for line in text.split('\n').take(place) {
+        end = end.saturating_add(line.len()).saturating_add(1);
+    }
+    end > SCRIPT_LIMIT
 }
 
 /// What is wrong with how the line ends, if anything is. A line ends with a line feed alone.

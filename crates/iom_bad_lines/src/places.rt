@@ -1,4 +1,5 @@
 // Where a line leaves the forms that lines have.
+use crate::limits::wrong_number;
 use crate::words::is_such;
 
 /// What is expected behind the last word of a form.
@@ -89,12 +90,17 @@ pub(crate) fn closest<'a>(
     best
 }
 
-/// Where the line leaves the one of these forms with which it agrees for longest.
-pub fn explain<'a>(line: &'a str, forms: &[&'static str]) -> WrongPlace<'a> {
-    let start = at_start(
-        line,
-        "the name of an event",
-        "docs/LANGUAGE.md has the names",
-    );
-    closest(line, forms, start)
+/// Where the line, which has one of these forms, says a number beyond its limits; or where it leaves the one with which it agrees
+/// for longest, or the place that is told.
+pub(crate) fn explain_by<'a>(
+    line: &'a str,
+    forms: &[&'static str],
+    there: WrongPlace<'a>,
+) -> WrongPlace<'a> {
+    if let Some(form) = form_of(line, forms) {
+        if let Some(place) = wrong_number(line, form) {
+            return place;
+        }
+    }
+    closest(line, forms, there)
 }

@@ -1,8 +1,8 @@
 // What is wrong with a line that isn't in the grammar of traces.
 use crate::forms::{EVENTS, SCRIPT_FORMS, TRACE_FIRST, TRACE_FORMS};
+use crate::limits::wrong_number;
 use crate::places::{END, WrongPlace, at_start, closest, form_of};
-use crate::words::are_some;
-use iom_script::words::{number_of, page_of};
+use iom_script::words::number_of;
 
 /// What stands between the two parts of a line.
 const ARROW: &str = " => ";
@@ -26,54 +26,18 @@ fn before_answer(place: WrongPlace<'_>) -> WrongPlace<'_> {
     }
 }
 
-/// Whether the word is a number between these, or one of them.
-fn is_between(word: &str, least: u64, most: u64) -> bool {
-    number_of(word.as_bytes()).is_some_and(|number| least <= number && number <= most)
-}
-
-/// The form, which the line has, unless a number of the size can't be.
-fn within_sizes<'a>(said: &'a str, form: &'static str) -> Result<&'static str, WrongPlace<'a>> {
-    let mut words = said.split(' ').skip(1);
-    let frames = words.next().unwrap_or("");
-    let levels = words.next().unwrap_or("");
-    let (most, expected) = match form {
-        "world F L" => (4096, "a number from 64 to 4,096"),
-        _ => (1 << 40, "a number from 64 to 1,099,511,627,776"),
-    };
-    if !is_between(frames, 64, most) {
-        return Err(WrongPlace::new(7, frames, expected, form));
-    }
-    if !is_between(levels, 1, 3) {
-        let column = frames.len().saturating_add(8);
-        return Err(WrongPlace::new(column, levels, "a number from 1 to 3", form));
-    }
-    Ok(form)
-}
-
 /// The form, which the line has, unless a number goes beyond what it may say.
 fn within_limits<'a>(said: &'a str, form: &'static str) -> Result<&'static str, WrongPlace<'a>> {
-    let mut words = said.split(' ').skip(2);
-    let pages = words.next().unwrap_or("");
-    let frame = words.next().unwrap_or("");
-    let count = pages.split('+').nth(1).unwrap_or("");
-    match form {
-        "ask ID PAGE" if page_of(pages.as_bytes()).is_none() => {
-            let expected = "a number below 4,503,599,627,370,496";
-            Err(WrongPlace::new(12, pages, expected, form))
-        }
-        "grant ID PAGE+N FRAME RIGHT" if !are_some(frame, count) => {
-            let column = pages.len().saturating_add(15);
-            let expected = "the first of N frames below 2^64";
-            Err(WrongPlace::new(column, frame, expected, form))
-        }
-        _ => Ok(form),
+    match wrong_number(said, form) {
+        Some(place) => Err(place),
+        None => Ok(form),
     }
 }
 
 /// The form of the first line that says something, before its answer; or where that is wrong.
 fn first_form(said: &str) -> Result<&'static str, WrongPlace<'_>> {
     match form_of(said, &TRACE_FIRST) {
-        Some(form) => within_sizes(said, form),
+        Some(form) => within_limits(said, form),
         None => {
             let start = at_start(said, "world", "world F L");
             Err(before_answer(closest(said, &TRACE_FIRST, start)))

@@ -7,7 +7,8 @@
 //!
 //! The layer above may rely on [`run`] and [`run_live`] telling whether anything was wrong: in the session that hardware went
 //! through by the lines that the reader had (`specs/Runs.antt`). And on nothing being written by [`run`] of a script that
-//! isn't in the grammar. What both write to the log is a script that is answered alike.
+//! isn't in the grammar. What both write to the log is a script that is answered alike; that is
+//! tested alone.
 #![tactic(auto)]
 
 mod arriving;

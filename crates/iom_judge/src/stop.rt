@@ -99,6 +99,9 @@ impl Line<'_> {
             return self.bad("it isn't text");
         };
         let place = explain_trace_line(text, is_first);
+        if place.found.ends_with('\r') {
+            return self.bad("it ends with a carriage return");
+        }
         let found = quoted(self.alloc, place.found.as_bytes())?;
         let (column, expected, form) = (place.column, place.expected, place.form);
         let wrong = format!(in self.alloc;

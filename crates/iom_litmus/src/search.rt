@@ -1,11 +1,12 @@
 //! The search: places that are equal are gone on from once. To come to a place, a system is made anew and brought there.
 ghost use Rattle.std.specs.Prelude.{◌≡◌, List, ◌++◌, ◌∷◌, [], IfOk, OnOk, Some, None, Err, slice_get};
 ghost use Rattle.iom_litmus.specs.Alike.{IsSamePlace};
+ghost use Rattle.iom_litmus.specs.Candidates.{ListsCandidates};
 ghost use Rattle.iom_litmus.specs.Graphs.{WasExplored, WasExpanded, IsSpareOf};
 ghost use Rattle.iom_litmus.specs.Histograms.{IsSearched};
-ghost use Rattle.iom_litmus.specs.Listed.{KeepsListed};
+ghost use Rattle.iom_litmus.specs.Listed.{AreListedOnce, KeepsListed};
 ghost use Rattle.iom_litmus.specs.Rules.{noting};
-ghost use Rattle.iom_litmus.specs.Searches.{ComesTo, IsExplored, IsEndless};
+ghost use Rattle.iom_litmus.specs.Searches.{ComesTo, IsExplored, IsExploring, IsEndless};
 ghost use Rattle.iom_litmus.specs.Steps.{opening_place};
 ghost use Rattle.iom_litmus.specs.declared.node.Node.{Node};
 ghost use Rattle.iom_litmus_test.specs.declared.observable.Spot.{Spot};
@@ -129,6 +130,42 @@ impl<S: System> Search<'_, S> {
         Ok(Some(number))
     }
 
+    /// The steps that there can be at this place, each once, the columns' first.
+    fn steps_at(&self, node: &Node<S>) -> Result<Sequence<Step>, AllocError>
+        ensures { IfOk result (λ steps. ListsCandidates S.readings self.now.test.now node.now.place steps × AreListedOnce steps) }
+    {
+        let all = candidates(self.alloc, self.test, &node.place)?;
+        each_once(self.alloc, all.as_slice())
+    }
+
+    /// Takes those of the steps that can be taken at this place.
+    fn take_steps(
+        &self,
+        places: &mut Places<S>,
+        tries: &mut Tries<S>,
+        current: usize,
+        steps: &[Step],
+        edges: &mut Sequence<Edge>,
+        most: usize,
+    ) -> Result<(), SearchFault>
+        requires once { AreListedOnce steps.now }
+        requires no_edges { edges.old ≡ [] }
+        requires no_spare { tries.old.spare ≡ None }
+        ensures expanded { (node : Node S) → slice_get places.old current ≡ Some node
+            → ListsCandidates S.readings self.now.test.now node.place steps.now
+            → (cells : List Spot) → KeepsListed tries.new.changing cells
+            → OnOk result (WasExpanded (noting S.rules cells) S.readings self.now.test.now node places.old places.new edges.new) }
+        ensures keeps { OnOk result (KeepsListed tries.old.changing tries.new.changing) }
+        ensures ends { ¬ (result ≡ Err SearchFault.Endless) }
+    {
+        for step in steps {
+            if let Some(to) = self.explore_step(places, tries, current, *step, most)? {
+                edges.push(Edge { step: *step, to })?;
+            }
+        }
+        Ok(())
+    }
+
     /// All steps from this place, the columns' first.
     fn expand(
         &self,
@@ -147,40 +184,64 @@ impl<S: System> Search<'_, S> {
         let Some(node) = places.as_slice().get(current) else {
             return Ok(edges);
         };
-        let all = candidates(self.alloc, self.test, &node.place)?;
-        let first = each_once(self.alloc, all.as_slice())?;
+        let steps = self.steps_at(node)?;
         tries.spare = None;
-        for step in first.as_slice() {
-            if let Some(to) = self.explore_step(places, tries, current, *step, most)? {
-                edges.push(Edge { step: *step, to })?;
-            }
-        }
+        self.take_steps(places, tries, current, steps.as_slice(), &mut edges, most)?;
         Ok(edges)
     }
 
-    /// All places, of which there may be so many, and the steps between them: shortest ways first.
+    /// Puts the place from which a test begins among the others.
+    fn begin(&self, places: &mut Places<S>, most: usize) -> Result<(), SearchFault>
+        ensures begun { places.old ≡ [] → (cells : List Spot) → OnOk result ((system : S) × S.opens self.now.opening.now system
+            × IsExploring (noting S.rules cells) S.readings self.now.test.now system places.new [] []) }
+        ensures ends { ¬ (result ≡ Err SearchFault.Endless) }
+    {
+        let opening = Place::opening(self.alloc, self.opening)?;
+        let nowhere = Sequence::new(self.alloc);
+        places.put(self.alloc, self.test, opening, nowhere, most)?;
+        Ok(())
+    }
+
+    /// Finds all places, of which there may be so many, and the steps between them: shortest ways first.
+    fn explore_places<W: Watch>(
+        &self,
+        places: &mut Places<S>,
+        edges: &mut Sequence<Sequence<Edge>>,
+        tries: &mut Tries<S>,
+        most: usize,
+        watch: &mut W,
+    ) -> Result<(), SearchFault>
+        requires no_places { places.old ≡ [] }
+        requires no_edges { edges.old ≡ [] }
+        ensures explored { OnOk result (IsExplored (S.opens self.now.opening.now) (noting S.rules tries.new.changing) S.readings self.now.test.now
+            places.new edges.new) }
+        ensures ends { ¬ (result ≡ Err SearchFault.Endless) }
+    {
+        self.begin(places, most)?;
+        for current in 0..most {
+            if current == places.as_slice().len() {
+                break;
+            }
+            watch.at(places.as_slice().len(), places.depth_of(current));
+            let onward = self.expand(places, tries, current, most)?;
+            edges.push(onward)?;
+        }
+        if edges.as_slice().len() != places.as_slice().len() {
+            return Err(SearchFault::TooMany);
+        }
+        Ok(())
+    }
+
+    /// All places, of which there may be so many, and the steps between them.
     fn find_places<W: Watch>(&self, most: usize, watch: &mut W) -> Result<Graph<S>, SearchFault>
         ensures explored { IfOk result (λ graph. IsExplored (S.opens self.now.opening.now) (noting S.rules graph.changing) S.readings self.now.test.now
             graph.places graph.edges) }
         ensures ends { ¬ (result ≡ Err SearchFault.Endless) }
     {
         let mut places = Places::new(self.alloc);
-        let opening = Place::opening(self.alloc, self.opening)?;
-        let nowhere = Sequence::new(self.alloc);
-        places.put(self.alloc, self.test, opening, nowhere, most)?;
         let mut edges = Sequence::new(self.alloc);
         let mut tries = Tries::new(self.alloc);
-        for current in 0..most {
-            if current == places.as_slice().len() {
-                break;
-            }
-            watch.at(places.as_slice().len(), places.depth_of(current));
-            let onward = self.expand(&mut places, &mut tries, current, most)?;
-            edges.push(onward)?;
-        }
-        if edges.as_slice().len() != places.as_slice().len() {
-            return Err(SearchFault::TooMany);
-        }
+        self.explore_places(&mut places, &mut edges, &mut tries, most, watch)?;
         Ok(Graph {
             places,
             edges,

@@ -12,7 +12,7 @@ use iom_litmus_test::Value;
 use std::alloc::{AllocError, Global};
 
 /// The places and their edges, and the outcome of which schedules are counted.
-#[derive(Clone, Copy)]
+#[derive(Drop)]
 pub(crate) struct Counting<'a, S> {
     pub(crate) nodes: &'a [Node<S>],
     pub(crate) edges: &'a [Sequence<Edge>],

@@ -22,9 +22,15 @@ fn condition_and<'a>(
     let Some(rest) = text.strip_prefix("if ") else {
         return Ok((None, text));
     };
-    let (label, rest) = rest.split_once(" = \"").ok_or(Why::BadCell)?;
-    let (answer, rest) = rest.split_once("\": ").ok_or(Why::BadCell)?;
-    let cell = cell_with(earlier, label.trim()).ok_or(Why::NoSuchCell)?;
+    let Some((label, rest)) = rest.split_once(" = \"") else {
+        return Err(Fault::Because(Why::BadCell));
+    };
+    let Some((answer, rest)) = rest.split_once("\": ") else {
+        return Err(Fault::Because(Why::BadCell));
+    };
+    let Some(cell) = cell_with(earlier, label.trim()) else {
+        return Err(Fault::Because(Why::NoSuchCell));
+    };
     let answer = glob_of(alloc, answer)?;
     Ok((Some(Condition { cell, answer }), rest.trim()))
 }
@@ -34,8 +40,12 @@ fn awaited_and(alloc: Global, text: &str) -> Result<(Option<Glob>, &str), Fault>
     let Some(rest) = text.strip_prefix("await ") else {
         return Ok((None, text));
     };
-    let (lines, answer) = rest.rsplit_once(" = \"").ok_or(Why::BadCell)?;
-    let answer = answer.strip_suffix('"').ok_or(Why::BadCell)?;
+    let Some((lines, answer)) = rest.rsplit_once(" = \"") else {
+        return Err(Fault::Because(Why::BadCell));
+    };
+    let Some(answer) = answer.strip_suffix('"') else {
+        return Err(Fault::Because(Why::BadCell));
+    };
     Ok((Some(glob_of(alloc, answer)?), lines))
 }
 

@@ -3,7 +3,7 @@ use crate::cells::cell_of;
 use crate::comments::without_comments;
 use crate::fault::{Fault, ReadFault, Why};
 use crate::names::copied;
-use crate::propositions::{DEEPEST, atom_and, either_and};
+use crate::propositions::{atom_and, proposition_and};
 use iom_base::Sequence;
 use iom_litmus_test::{
     Budgets, Column, NumberedText, Observable, Parts, Question, QuestionKind, Test,
@@ -42,24 +42,29 @@ struct Draft {
 
 /// What a file says.
 pub fn read(alloc: Global, bytes: &[u8]) -> Result<Test, ReadFault> {
-    let clean = without_comments(alloc, bytes).map_err(|fault| fault.at(1))?;
-    let Ok(text) = str::from_utf8(&clean) else {
-        return Err(Fault::Because(Why::NotText).at(1));
+    let clean = match without_comments(alloc, bytes) {
+        Ok(clean) => clean,
+        Err(fault) => return Err(fault.at(1)),
     };
-    let mut draft = Draft::new(alloc);
-    let mut number = 0u64;
-    for line in text.lines() {
-        number = number.saturating_add(1);
-        if !line.trim().is_empty() {
-            draft
-                .take(alloc, number, line.trim())
-                .map_err(|fault| fault.at(number))?;
-        }
+    match str::from_utf8(&clean) {
+        Ok(text) => read_text(alloc, text),
+        Err(_) => Err(Fault::Because(Why::NotText).at(1)),
     }
-    draft.finish().ok_or(ReadFault::Line {
-        number,
-        why: Why::NoQuestion,
-    })
+}
+
+/// What a file says that is text without comments.
+fn read_text(alloc: Global, text: &str) -> Result<Test, ReadFault> {
+    let mut draft = Draft::new(alloc);
+    let number = draft.take_lines(alloc, text)?;
+    match draft.finish() {
+        Some(test) => Ok(test),
+        None => Err(Fault::Because(Why::NoQuestion).at(number)),
+    }
+}
+
+/// What stands between these characters, of which one is the first and one the last.
+fn between(text: &str, first: char, last: char) -> Option<&str> {
+    text.strip_prefix(first)?.strip_suffix(last)
 }
 
 impl Draft {
@@ -87,7 +92,23 @@ impl Draft {
         }
     }
 
+    /// Takes the lines of the text. How many there are.
+    fn take_lines(&mut self, alloc: Global, text: &str) -> Result<u64, ReadFault> {
+        let mut number = 0u64;
+        for line in text.lines() {
+            number = number.saturating_add(1);
+            if let Err(fault) = self.take(alloc, number, line.trim()) {
+                return Err(fault.at(number));
+            }
+        }
+        Ok(number)
+    }
+
+    /// Takes a line. An empty one says nothing.
     fn take(&mut self, alloc: Global, number: u64, line: &str) -> Result<(), Fault> {
+        if line.is_empty() {
+            return Ok(());
+        }
         match self.section {
             Section::Name => self.take_name(alloc, line),
             Section::Title => self.take_title(alloc, line),
@@ -99,7 +120,9 @@ impl Draft {
     }
 
     fn take_name(&mut self, alloc: Global, line: &str) -> Result<(), Fault> {
-        let name = line.strip_prefix("VIZKRUN ").ok_or(Why::NoName)?;
+        let Some(name) = line.strip_prefix("VIZKRUN ") else {
+            return Err(Fault::Because(Why::NoName));
+        };
         self.name = copied(alloc, name.trim())?;
         self.section = Section::Title;
         Ok(())
@@ -110,8 +133,9 @@ impl Draft {
             self.section = Section::Opening;
             return Ok(());
         }
-        let quoted = line.strip_prefix('"').ok_or(Why::NoOpening)?;
-        let title = quoted.strip_suffix('"').ok_or(Why::NoOpening)?;
+        let Some(title) = between(line, '"', '"') else {
+            return Err(Fault::Because(Why::NoOpening));
+        };
         self.title = copied(alloc, title)?;
         Ok(())
     }
@@ -131,7 +155,9 @@ impl Draft {
     }
 
     fn take_columns(&mut self, alloc: Global, line: &str) -> Result<(), Fault> {
-        let names = line.strip_suffix(';').ok_or(Why::NoColumns)?;
+        let Some(names) = line.strip_suffix(';') else {
+            return Err(Fault::Because(Why::NoColumns));
+        };
         for name in names.split('|') {
             if self.columns.as_slice().len() >= MOST_COLUMNS {
                 return Err(Fault::Because(Why::TooMany));
@@ -164,7 +190,9 @@ impl Draft {
     }
 
     fn take_row(&mut self, alloc: Global, number: u64, line: &str) -> Result<(), Fault> {
-        let cells = line.strip_suffix(';').ok_or(Why::BadRow)?;
+        let Some(cells) = line.strip_suffix(';') else {
+            return Err(Fault::Because(Why::BadRow));
+        };
         for (place, cell) in cells.split('|').enumerate() {
             if place >= self.columns.as_slice().len() {
                 return Err(Fault::Because(Why::TooMany));
@@ -178,7 +206,9 @@ impl Draft {
 
     fn take_parts(&mut self, parts: &str) -> Result<(), Fault> {
         for part in parts.split(',') {
-            self.take_part(part.trim()).ok_or(Why::BadPart)?;
+            if self.take_part(part.trim()).is_none() {
+                return Err(Fault::Because(Why::BadPart));
+            }
         }
         Ok(())
     }
@@ -204,8 +234,9 @@ impl Draft {
     }
 
     fn take_locations(&mut self, alloc: Global, locations: &str) -> Result<(), Fault> {
-        let inside = locations.strip_prefix('[').ok_or(Why::BadLocation)?;
-        let inside = inside.strip_suffix(']').ok_or(Why::BadLocation)?;
+        let Some(inside) = between(locations, '[', ']') else {
+            return Err(Fault::Because(Why::BadLocation));
+        };
         for location in inside.split(';') {
             if !location.trim().is_empty() {
                 let columns = self.columns.as_slice();
@@ -222,7 +253,7 @@ impl Draft {
         text: &str,
     ) -> Result<(), Fault> {
         let columns = self.columns.as_slice();
-        let (proposition, rest) = either_and(alloc, columns, &mut self.observables, text, DEEPEST)?;
+        let (proposition, rest) = proposition_and(alloc, columns, &mut self.observables, text)?;
         if !rest.trim().is_empty() {
             return Err(Fault::Because(Why::BadProposition));
         }

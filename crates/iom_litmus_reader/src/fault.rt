@@ -44,7 +44,7 @@ pub enum ReadFault {
 }
 
 /// Why a line isn't taken.
-#[derive(Clone, Copy, Debug)]
+#[derive(Clone, Copy)]
 pub(crate) enum Fault {
     Memory,
     Because(Why),
@@ -62,11 +62,5 @@ impl Fault {
 impl From<AllocError> for Fault {
     fn from(_fault: AllocError) -> Fault {
         Fault::Memory
-    }
-}
-
-impl From<Why> for Fault {
-    fn from(why: Why) -> Fault {
-        Fault::Because(why)
     }
 }

@@ -23,15 +23,15 @@ pub(crate) fn glob_of(alloc: Global, text: &str) -> Result<Glob, AllocError> {
 
 /// Whether it is a label: a letter, and letters and digits behind it.
 pub(crate) fn is_label(text: &str) -> bool {
-    match text.as_bytes() {
-        [first, rest @ ..] => {
-            first.is_ascii_lowercase()
-                && rest
-                    .iter()
-                    .all(|byte| byte.is_ascii_lowercase() || byte.is_ascii_digit())
+    let [first, rest @ ..] = text.as_bytes() else {
+        return false;
+    };
+    for byte in rest {
+        if !byte.is_ascii_lowercase() && !byte.is_ascii_digit() {
+            return false;
         }
-        [] => false,
     }
+    first.is_ascii_lowercase()
 }
 
 /// The place of the cell with this label.
@@ -47,14 +47,17 @@ pub(crate) fn cell_with(cells: &[Cell], label: &str) -> Option<usize> {
 }
 
 /// The place of the column with this name.
-pub(crate) fn column_of(columns: &[Column], name: &str) -> Option<usize> {
-    columns
-        .iter()
-        .position(|column| column.name.as_slice() == name.as_bytes())
+fn column_of(columns: &[Column], name: &str) -> Option<usize> {
+    for (place, column) in columns.iter().enumerate() {
+        if column.name.as_slice() == name.as_bytes() {
+            return Some(place);
+        }
+    }
+    None
 }
 
 /// The cell of `COL:LABEL`.
-pub(crate) fn spot_of(columns: &[Column], text: &str) -> Option<Spot> {
+fn spot_of(columns: &[Column], text: &str) -> Option<Spot> {
     let (name, label) = text.trim().split_once(':')?;
     let column = column_of(columns, name)?;
     let cell = cell_with(columns.get(column)?.cells.as_slice(), label)?;

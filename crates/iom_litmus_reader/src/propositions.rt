@@ -2,11 +2,41 @@
 use crate::fault::{Fault, Why};
 use crate::names::{glob_of, observable_of};
 use iom_base::Sequence;
-use iom_litmus_test::{Atom, Column, Observable, Proposition};
+use iom_litmus_test::{Atom, Column, Glob, Observable, Proposition};
 use std::alloc::{AllocError, Global};
 
 /// How deep a proposition goes at most.
-pub(crate) const DEEPEST: u32 = 64;
+const DEEPEST: u32 = 64;
+
+/// What stands between propositions. `/\` binds more.
+#[derive(Clone, Copy)]
+enum Connective {
+    And,
+    Or,
+}
+
+impl Connective {
+    fn sign(self) -> &'static str {
+        match self {
+            Connective::And => "/\\",
+            Connective::Or => "\\/",
+        }
+    }
+
+    fn join(
+        self,
+        alloc: Global,
+        left: Proposition,
+        right: Proposition,
+    ) -> Result<Proposition, AllocError> {
+        let left = Box::new(alloc, left)?;
+        let right = Box::new(alloc, right)?;
+        Ok(match self {
+            Connective::And => Proposition::And(left, right),
+            Connective::Or => Proposition::Or(left, right),
+        })
+    }
+}
 
 /// The place of what is looked at, which is added where it isn't there.
 fn place_of(seen: &mut Sequence<Observable>, observable: Observable) -> Result<usize, AllocError> {
@@ -20,6 +50,28 @@ fn place_of(seen: &mut Sequence<Observable>, observable: Observable) -> Result<u
     Ok(count)
 }
 
+/// What is looked at, the text that it is to be, and what stands behind both.
+fn atom_text(text: &str) -> Option<(&str, Option<&str>, &str)> {
+    let plain = text.split([')', '/', '\\', ';']).next().unwrap_or(text);
+    if let Some((looked_at, _)) = plain.split_once(" = \"") {
+        let (_, quoted) = text.split_once(" = \"")?;
+        let (answer, rest) = quoted.split_once('"')?;
+        return Some((looked_at, Some(answer), rest));
+    }
+    let rest = text.strip_prefix(plain).unwrap_or("");
+    match plain.split_once("]=") {
+        Some((_, digits)) => Some((plain, Some(digits.trim()), rest)),
+        None => Some((plain, None, rest)),
+    }
+}
+
+fn wanted_of(alloc: Global, wanted: Option<&str>) -> Result<Option<Glob>, AllocError> {
+    match wanted {
+        Some(answer) => Ok(Some(glob_of(alloc, answer)?)),
+        None => Ok(None),
+    }
+}
+
 /// What is looked at, and what stands behind it.
 pub(crate) fn atom_and<'a>(
     alloc: Global,
@@ -27,28 +79,20 @@ pub(crate) fn atom_and<'a>(
     seen: &mut Sequence<Observable>,
     text: &'a str,
 ) -> Result<(Atom, &'a str), Fault> {
-    let ends = |c: char| c == ')' || c == '/' || c == '\\' || c == ';';
-    let plain = text.split(ends).next().unwrap_or(text);
-    let rest = text.strip_prefix(plain).unwrap_or("");
-    let (looked_at, wanted, rest) = match plain.split_once(" = \"") {
-        Some((looked_at, _)) => {
-            let (_, quoted) = text.split_once(" = \"").ok_or(Why::BadProposition)?;
-            let (answer, rest) = quoted.split_once('"').ok_or(Why::BadProposition)?;
-            (looked_at, Some(answer), rest)
-        }
-        None => match plain.split_once("]=") {
-            Some((_, digits)) => (plain, Some(digits.trim()), rest),
-            None => (plain, None, rest),
-        },
+    let Some((looked_at, wanted, rest)) = atom_text(text) else {
+        return Err(Fault::Because(Why::BadProposition));
     };
     let digits = wanted.unwrap_or("").len();
-    let observable = observable_of(columns, looked_at.trim(), digits).ok_or(Why::NoSuchCell)?;
-    let place = place_of(seen, observable)?;
-    let wanted = match wanted {
-        Some(answer) => Some(glob_of(alloc, answer)?),
-        None => None,
+    let Some(observable) = observable_of(columns, looked_at.trim(), digits) else {
+        return Err(Fault::Because(Why::NoSuchCell));
     };
+    let place = place_of(seen, observable)?;
+    let wanted = wanted_of(alloc, wanted)?;
     Ok((Atom { place, wanted }, rest))
+}
+
+fn negated(alloc: Global, inner: Proposition) -> Result<Proposition, AllocError> {
+    Ok(Proposition::Not(Box::new(alloc, inner)?))
 }
 
 /// A proposition without connectives between its parts, and what stands behind it.
@@ -64,63 +108,52 @@ fn single_and<'a>(
         return Err(Fault::Because(Why::BadProposition));
     }
     let text = text.trim_start();
-    if let Some(negated) = text.strip_prefix('~') {
-        let (inner, rest) = single_and(alloc, columns, seen, negated, depth - 1)?;
-        let inner = Box::new(alloc, inner).map_err(AllocError::from)?;
-        return Ok((Proposition::Not(inner), rest));
+    if let Some(behind) = text.strip_prefix('~') {
+        let (inner, rest) = single_and(alloc, columns, seen, behind, depth - 1)?;
+        return Ok((negated(alloc, inner)?, rest));
     }
     if let Some(inside) = text.strip_prefix('(') {
-        let (inner, rest) = either_and(alloc, columns, seen, inside, depth - 1)?;
-        let rest = rest
-            .trim_start()
-            .strip_prefix(')')
-            .ok_or(Why::BadProposition)?;
+        let (inner, rest) = joined_and(alloc, columns, seen, inside, Connective::Or, depth - 1)?;
+        let Some(rest) = rest.trim_start().strip_prefix(')') else {
+            return Err(Fault::Because(Why::BadProposition));
+        };
         return Ok((inner, rest));
     }
     let (atom, rest) = atom_and(alloc, columns, seen, text)?;
     Ok((Proposition::Seen(atom), rest))
 }
 
-/// Propositions with `/\` between them, and what stands behind them.
+/// Propositions with the connective between them, and what stands behind them.
 #[cycle(proposition)]
-fn both_and<'a>(
+fn joined_and<'a>(
     alloc: Global,
     columns: &[Column],
     seen: &mut Sequence<Observable>,
     text: &'a str,
+    connective: Connective,
     depth: u32,
 ) -> Result<(Proposition, &'a str), Fault> {
     if depth == 0 {
         return Err(Fault::Because(Why::BadProposition));
     }
-    let (left, rest) = single_and(alloc, columns, seen, text, depth - 1)?;
-    let Some(more) = rest.trim_start().strip_prefix("/\\") else {
+    let first = match connective {
+        Connective::And => single_and(alloc, columns, seen, text, depth - 1),
+        Connective::Or => joined_and(alloc, columns, seen, text, Connective::And, depth - 1),
+    };
+    let (left, rest) = first?;
+    let Some(more) = rest.trim_start().strip_prefix(connective.sign()) else {
         return Ok((left, rest));
     };
-    let (right, rest) = both_and(alloc, columns, seen, more, depth - 1)?;
-    let left = Box::new(alloc, left).map_err(AllocError::from)?;
-    let right = Box::new(alloc, right).map_err(AllocError::from)?;
-    Ok((Proposition::And(left, right), rest))
+    let (right, rest) = joined_and(alloc, columns, seen, more, connective, depth - 1)?;
+    Ok((connective.join(alloc, left, right)?, rest))
 }
 
-/// Propositions with `\/` between them, and what stands behind them.
-#[cycle(proposition)]
-pub(crate) fn either_and<'a>(
+/// A proposition, and what stands behind it.
+pub(crate) fn proposition_and<'a>(
     alloc: Global,
     columns: &[Column],
     seen: &mut Sequence<Observable>,
     text: &'a str,
-    depth: u32,
 ) -> Result<(Proposition, &'a str), Fault> {
-    if depth == 0 {
-        return Err(Fault::Because(Why::BadProposition));
-    }
-    let (left, rest) = both_and(alloc, columns, seen, text, depth - 1)?;
-    let Some(more) = rest.trim_start().strip_prefix("\\/") else {
-        return Ok((left, rest));
-    };
-    let (right, rest) = either_and(alloc, columns, seen, more, depth - 1)?;
-    let left = Box::new(alloc, left).map_err(AllocError::from)?;
-    let right = Box::new(alloc, right).map_err(AllocError::from)?;
-    Ok((Proposition::Or(left, right), rest))
+    joined_and(alloc, columns, seen, text, Connective::Or, DEEPEST)
 }

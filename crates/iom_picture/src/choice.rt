@@ -22,6 +22,30 @@ impl Choice {
         }
     }
 
+    /// Whether a mark at the place is one of the frame and of the device that are chosen.
+    fn marks_chosen(self, timeline: &Timeline, place: Place) -> bool {
+        match place {
+            Place::Driver => false,
+            Place::Frame(frame) => self.device.is_none() && self.has_frame(frame),
+            Place::Lane(_) | Place::Device(_) => self.has_place(timeline, place),
+        }
+    }
+
+    /// Whether the trace has anything of the frame and of the device that are chosen: a page that was granted, or a mark.
+    pub fn is_in(self, timeline: &Timeline) -> bool {
+        for lane in &timeline.lanes {
+            if self.has_lane(lane) {
+                return true;
+            }
+        }
+        for mark in &timeline.marks {
+            if self.marks_chosen(timeline, mark.place) {
+                return true;
+            }
+        }
+        false
+    }
+
     /// Of this many lines those that are there. The first is never behind the last.
     pub(crate) fn within(self, last_line: u64) -> Choice {
         let from = self.from.max(1);

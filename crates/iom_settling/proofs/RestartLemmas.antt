@@ -114,7 +114,7 @@ asks_so_caches parts events id Detached invariants is ats = absurd (false≢true
 asks_so_caches parts events id (Quarantined ticket stage) invariants is ats = absurd (false≢true ats)
 asks_so_caches parts events id (Leaving ticket stage) invariants is ats = absurd (false≢true ats)
 asks_so_caches parts events id (Attached stage) invariants is ats =
-    ∥∥₁_elim invariants.copies (bool_prop (caches_translations (kind_in parts.devices id)) true) (λ (scene, shows, facts). by scene shows facts)
+    ∥∥₁_elim invariants.copies (bool_prop (caches_translations (kind_in parts.devices id)) true) (λ (scene, shows, facts). by scene shows facts.copies)
   where
     by : (scene : Scene) → IsSceneOf (values_of parts) scene → IsFaithful scene → caches_translations (kind_in parts.devices id) ≡ true
     by scene shows facts =

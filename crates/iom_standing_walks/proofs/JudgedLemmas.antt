@@ -78,7 +78,7 @@ second_is_judged_now reaches_leaf faults_else size m root address kind table don
 -- Both stages.
 
 -- a frame that the second stage finds is the leaf of the page now
-leaf_now : GuestWalkReachesLeaf → (size : Size) (m : List (List ℕ)) (root address : ℕ) (kind : AccessKind) (done : List ℕ) (j : ℕ) (left : List ℕ) (frame : ℕ) (rights : Rights)
+pub leaf_now : GuestWalkReachesLeaf → (size : Size) (m : List (List ℕ)) (root address : ℕ) (kind : AccessKind) (done : List ℕ) (j : ℕ) (left : List ℕ) (frame : ℕ) (rights : Rights)
     → address < 2 ^ (9 * levels_of size + 14) → second_path (levels_of size) address ≡ done ++ j ∷ left → Reaches (entries m) kind root (done ++ j ∷ left) frame rights → frame < length m
     → HasLeafNow size m root address kind frame rights
 leaf_now reaches_leaf size m root address kind done j left frame rights small path reaches inside =

@@ -3,3 +3,4 @@ pub mod PositionLemmas
 pub mod NowLemmas
 pub mod PageLemmas
 pub mod JudgedLemmas
+pub mod FaultLemmas

@@ -6,6 +6,7 @@ ghost use Rattle.iom_standing_walks.specs.Pages.{DirectoryEndsAsNow, DirectoryGo
 ghost use Rattle.iom_standing_walks.specs.Walks.{OneStageStands, TowardEntryStands, AtEntryStands, TowardPageStands, DirectoryStands};
 ghost use Rattle.iom_standing_walks.specs.Judged.{FirstIsJudgedNow, SecondIsJudgedNow, EntryIsJudgedNow, PageIsJudgedNow};
 ghost use Rattle.iom_standing_walks.specs.Driven.{DrivenWalksStand};
+ghost use Rattle.iom_standing_walks.specs.Faults.{EntryFaultsNow, PageEndsNow, GuestEntryFaultsNow};
 
 use iom_page_table::laws::{
     guest_walk_faults_else, guest_walk_reaches_leaf, walk_faults_else, walk_reaches_leaf,
@@ -59,6 +60,19 @@ pub fn leaf_law()
 {
     walk_reaches_leaf();
     walk_faults_else();
+    guest_walk_reaches_leaf();
+    guest_walk_faults_else();
+}
+
+/// In both stages, through the driver's tables of the second, a load that ends a walk on its way to an entry of a guest's
+/// ends it with that stage's page fault, where the entry may not be read. One that ends it on its way to the page ends it
+/// there, as the page's leaf is then, or with the same fault. One of the guest's entry ends it with a page fault of either
+/// stage, whatever the guest wrote.
+pub fn fault_law()
+    ensures entry { EntryFaultsNow }
+    ensures page { PageEndsNow }
+    ensures guest_entry { GuestEntryFaultsNow }
+{
     guest_walk_reaches_leaf();
     guest_walk_faults_else();
 }

@@ -9,4 +9,6 @@
 
 mod laws;
 
-pub use laws::{directory_law, driven_law, leaf_law, position_law, standing_law, walk_law};
+pub use laws::{
+    directory_law, driven_law, fault_law, leaf_law, position_law, standing_law, walk_law,
+};

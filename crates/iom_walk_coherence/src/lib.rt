@@ -9,7 +9,7 @@
 //! This crate is layered upon `iom_coherence`, which has the same of all copies of a grant: a scene of that crate, and
 //! the walks beside it. It has no code: `specs/Walks.antt` has the values, `specs/Faithful.antt` what is claimed of each
 //! walk, `specs/Transitions.antt` what hardware and driver do. [`walk_law`] keeps the facts, [`standing_law`] says what
-//! follows. Nothing stands on this crate yet.
+//! follows. `iom_world_effects` has these facts in the invariant of a world, in which no walk is under way yet.
 #![tactic(auto)]
 
 mod laws;

@@ -112,7 +112,7 @@ module _ (parts : Parts) (events : ℕ) (state : State) (id page : ℕ) (stage :
   pub leaves_none : (ticket : ℕ) (s : Stages) → attachment_by_id parts.driver.devices id ≡ driver.Leaving ticket s → ⊥
   leaves_none ticket s is =
       not_there invariants.copies (λ (scene, shown, facts).
-      none_cached scene (copy_of id page translation) (Leaving ticket s.mode s.ats) parts.driver.confirmed parts.driver.given facts (shown.attachments id ∙ ap shown_attachment is)
+      none_cached scene (copy_of id page translation) (Leaving ticket s.mode s.ats) parts.driver.confirmed parts.driver.given facts.copies (shown.attachments id ∙ ap shown_attachment is)
       (own.leaving id ticket s is) (there_in scene shown))
 
   -- nor of one that is detached
@@ -149,16 +149,16 @@ module _ (parts : Parts) (events : ℕ) (state : State) (id : ℕ) (access : Acc
   may_in both scene shown facts = reach_in true both scene shown facts access.kind allowed
 
   by_mode : (mode : Mode) (ats : Bool) → in_both_stages (shown_attachment (attachment_by_id parts.driver.devices id)) ≡ is_both mode → MayAccept (Attached mode ats) state id access translation.frame
-  by_mode (First size) ats is = accept_merely state.history id translation.frame access (∥∥₁_map invariants.copies (λ (scene, shown, facts). accept_in is scene shown facts))
-  by_mode (Second size) ats is = accept_merely state.history id translation.frame access (∥∥₁_map invariants.copies (λ (scene, shown, facts). accept_in is scene shown facts))
-  by_mode (Both size) ats is = may_merely state.history id translation.frame access.kind (∥∥₁_map invariants.copies (λ (scene, shown, facts). may_in is scene shown facts))
+  by_mode (First size) ats is = accept_merely state.history id translation.frame access (∥∥₁_map invariants.copies (λ (scene, shown, facts). accept_in is scene shown facts.copies))
+  by_mode (Second size) ats is = accept_merely state.history id translation.frame access (∥∥₁_map invariants.copies (λ (scene, shown, facts). accept_in is scene shown facts.copies))
+  by_mode (Both size) ats is = may_merely state.history id translation.frame access.kind (∥∥₁_map invariants.copies (λ (scene, shown, facts). may_in is scene shown facts.copies))
 
   -- of a device that is quarantined it is what lingers
   quarantined : (ticket : ℕ) (s : Stages) → attachment_by_id parts.driver.devices id ≡ driver.Quarantined ticket s → MayAccept (shown_attachment (driver.Quarantined ticket s)) state id access translation.frame
   quarantined ticket s is = (
     shows.none_later ticket (pending ticket s is),
     accept_formerly state.history id (access.address / 4096) translation.frame translation.rights (quarantined_holds parts.driver own state.history shows.ledger id ticket s is) s.mode access refl allowed
-        (∥∥₁_map invariants.copies (λ (scene, shown, facts). reach_in (is_both s.mode) (ap (λ a. in_both_stages (shown_attachment a)) is) scene shown facts)),
+        (∥∥₁_map invariants.copies (λ (scene, shown, facts). reach_in (is_both s.mode) (ap (λ a. in_both_stages (shown_attachment a)) is) scene shown facts.copies)),
   )
 
   by_attachment : (a : Attachment) → attachment_by_id parts.driver.devices id ≡ a → MayAccept (shown_attachment a) state id access translation.frame

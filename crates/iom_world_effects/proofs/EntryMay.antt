@@ -178,8 +178,8 @@ module _ (parts : Parts) (events id : ℕ) (access : Access) (frame : ℕ) (inva
   -- who leaves holds nothing, and nothing lingers for it
   never_leaving : (ticket : ℕ) (stage : Stages) → attachment_by_id parts.driver.devices id ≡ driver.Leaving ticket stage → ⊥
   never_leaving ticket stage is = not_there invariants.copies (λ (scene, shown, facts).
-      let fits : GrantsFit scene.history id (Leaving ticket stage.mode stage.ats) = subst (GrantsFit scene.history id) (shown.attachments id ∙ ap shown_attachment is) (facts.order.grants id) in
-      let backed = (facts.entries copy (entry_in scene shown) (used_in scene shown)).1 in
+      let fits : GrantsFit scene.history id (Leaving ticket stage.mode stage.ats) = subst (GrantsFit scene.history id) (shown.attachments id ∙ ap shown_attachment is) (facts.copies.order.grants id) in
+      let backed = (facts.copies.entries copy (entry_in scene shown) (used_in scene shown)).1 in
       elim backed.3 [
         | inl holds ↦ let none = fits.0 backed.0 in none_some backed.1 (sym none ∙ holds)
         | inr (under, released, still) ↦ fits.1 backed.0 under (frame, backed.1) released
@@ -195,7 +195,7 @@ module _ (parts : Parts) (events id : ℕ) (access : Access) (frame : ℕ) (inva
       by : (b : Bool) → has_ats (shown_attachment a) ≡ b → has_ats (shown_attachment a) ≡ true
       by true same = same
       by false none = absurd (not_there invariants.copies (λ (scene, shown, facts).
-          false≢true (sym (ap has_ats (shown.attachments id ∙ ap shown_attachment is) ∙ none) ∙ faithful_in scene shown facts)))
+          false≢true (sym (ap has_ats (shown.attachments id ∙ ap shown_attachment is) ∙ none) ∙ faithful_in scene shown facts.copies)))
 
   -- so its context lets it through
   pub entry_context : ServiceLaws → (stage : Stages) × (ats_context_for parts.memory (registers_of parts.iommu) (contexts_of parts.iommu) id ≡ Ok (context_for stage))
@@ -238,7 +238,7 @@ module _ (parts : Parts) (events id : ℕ) (access : Access) (frame : ℕ) (inva
       by true is = leb-true (suc frame) (length parts.memory) is
       by false is =
           let high : length parts.memory < suc frame = leb-false (suc frame) (length parts.memory) is in
-          absurd (not_there invariants.copies (λ (scene, shown, facts). let low = in_scene scene shown facts in absurd (omega (arith, high, low))))
+          absurd (not_there invariants.copies (λ (scene, shown, facts). let low = in_scene scene shown facts.copies in absurd (omega (arith, high, low))))
 
   -- so the translated request that the device makes of it is let through, on that frame
   pub entry_page : ServiceLaws → physical_page (ats_context_for parts.memory (registers_of parts.iommu) (contexts_of parts.iommu) id) parts.memory (at_frame frame access).address access.kind
@@ -264,16 +264,16 @@ module _ (parts : Parts) (events id : ℕ) (access : Access) (frame : ℕ) (inva
     ]
 
     by_mode : (mode : Mode) (ats : Bool) → in_both_stages (shown_attachment (attachment_by_id parts.driver.devices id)) ≡ is_both mode → MayGoThrough (Attached mode ats) state id access frame
-    by_mode (First size) ats is = have_merely state.history id frame access (∥∥₁_map invariants.copies (λ (scene, shown, facts). have_in is scene shown facts))
-    by_mode (Second size) ats is = have_merely state.history id frame access (∥∥₁_map invariants.copies (λ (scene, shown, facts). have_in is scene shown facts))
-    by_mode (Both size) ats is = may_merely state.history id frame access.kind (∥∥₁_map invariants.copies (λ (scene, shown, facts). reachable_in true is scene shown facts access.kind entry.allowed))
+    by_mode (First size) ats is = have_merely state.history id frame access (∥∥₁_map invariants.copies (λ (scene, shown, facts). have_in is scene shown facts.copies))
+    by_mode (Second size) ats is = have_merely state.history id frame access (∥∥₁_map invariants.copies (λ (scene, shown, facts). have_in is scene shown facts.copies))
+    by_mode (Both size) ats is = may_merely state.history id frame access.kind (∥∥₁_map invariants.copies (λ (scene, shown, facts). reachable_in true is scene shown facts.copies access.kind entry.allowed))
 
     -- of a device that is quarantined it is what lingers
     quarantined : (ticket : ℕ) (stage : Stages) → attachment_by_id parts.driver.devices id ≡ driver.Quarantined ticket stage → MayGoThrough (shown_attachment (driver.Quarantined ticket stage)) state id access frame
     quarantined ticket stage is = (
       shows.none_later ticket (pending_cached parts events invariants id (ap is_some (usable ticket stage is).1) ticket stage is),
       accept_formerly state.history id (page_of access) frame entry.rights (quarantined_holds parts.driver own state.history shows.ledger id ticket stage is) stage.mode access refl entry.allowed
-          (∥∥₁_map invariants.copies (λ (scene, shown, facts). reachable_in (is_both stage.mode) (ap (λ a. in_both_stages (shown_attachment a)) is) scene shown facts)),
+          (∥∥₁_map invariants.copies (λ (scene, shown, facts). reachable_in (is_both stage.mode) (ap (λ a. in_both_stages (shown_attachment a)) is) scene shown facts.copies)),
     )
 
     -- and the machine lets the access go through

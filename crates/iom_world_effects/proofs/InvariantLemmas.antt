@@ -42,7 +42,7 @@ le_prop a b = hlevel props
 pub completed_given : (parts : Parts) (events : ℕ) → PartsInvariant parts events → completed_in parts.memory ≤ last_fence parts.driver
 completed_given parts events invariants =
     ∥∥₁_elim invariants.copies (le_prop (completed_in parts.memory) (last_fence parts.driver))
-    (λ (scene, shows, facts). by scene shows facts)
+    (λ (scene, shows, facts). by scene shows facts.copies)
   where
     by : (scene : Scene) → IsSceneOf (values_of parts) scene → IsFaithful scene → completed_in parts.memory ≤ last_fence parts.driver
     by scene shows facts =
@@ -55,7 +55,7 @@ completed_given parts events invariants =
 pub detached_uncached : (parts : Parts) (id : ℕ) (context : Context) → ∥ HasFaithfulScene (values_of parts) ∥₁ → contexts_of parts.iommu id ≡ Some context
     → shown_attachment (attachment_by_id parts.driver.devices id) ≡ Detached → ⊥
 detached_uncached parts id context copies cached detached =
-    ∥∥₁_elim copies (λ x y. absurd x) (λ (scene, shows, facts). by scene shows facts)
+    ∥∥₁_elim copies (λ x y. absurd x) (λ (scene, shows, facts). by scene shows facts.copies)
   where
     by : (scene : Scene) → IsSceneOf (values_of parts) scene → IsFaithful scene → ⊥
     by scene shows facts =

@@ -10,6 +10,7 @@ pub mod DeviceLemmas
 pub mod DiskPlaces
 pub mod DriverLemmas
 pub mod EntryMay
+pub mod FactsKept
 pub mod FrameLemmas
 pub mod HistoryMay
 pub mod MadeFrames
@@ -35,3 +36,4 @@ pub mod RestartScenes
 pub mod ResetScenes
 pub mod RevivalScenes
 pub mod WalkLemmas
+pub mod WalkScenes

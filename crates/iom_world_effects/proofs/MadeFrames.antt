@@ -55,7 +55,7 @@ access_unreserved : (parts : Parts) (events : ℕ) (access : AccessInFlight) →
 access_unreserved parts events access invariants own there =
     ∥∥₁_elim invariants.copies (a_fact (has_owner parts.driver.owners access.frame))
     (λ (scene, shows, facts). may_unreserved parts scene.history access.device access.frame access.kind own shows.ledger
-    (accesses_may scene facts access (subst (λ l. Contains l access) (sym shows.in_flight) there)))
+    (accesses_may scene facts.copies access (subst (λ l. Contains l access) (sym shows.in_flight) there)))
   where
     a_fact : (b : Bool) → IsProp (b ≡ false)
     a_fact b = hlevel props

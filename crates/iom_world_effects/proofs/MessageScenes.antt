@@ -8,8 +8,9 @@ use Rattle.iom_coherence.specs.Queue.{Extent}
 use Rattle.iom_coherence.specs.Transitions.{CarryMessages, DeliverAnswer, DeliverRequest, DeliverCompletion}
 use Rattle.iom_coherence.specs.Scene.{AtsMessage, Answer, InvalidateRequest, InvalidateCompletion, Copy, Invalidation, Scene}
 use Rattle.iom_coherence.proofs.ListLemmas.{same_function}
-use Rattle.iom_coherence.proofs.TransitionLemmas.{transitions_keep_facts}
-use Rattle.iom_world_effects.specs.Scenes.{Values, IsSceneOf, HasFaithfulScene}
+use Rattle.iom_walk_coherence.specs.Walks.{Walk}
+use Rattle.iom_world_effects.proofs.FactsKept.{facts_kept}
+use Rattle.iom_world_effects.specs.Scenes.{Values, IsSceneOf, HasSceneWith}
 use Rattle.iom_world_effects.specs.Traffic.{Traffic, under_way}
 use Rattle.iom_world_effects.proofs.SceneSteps.{KeepsGrants, CachesNoMore, scene_from}
 
@@ -56,14 +57,14 @@ own_traffic old scene change new shows is = ap (with_traffic scene) (is ∙ ap c
 -- MESSAGES ARE SENT, lost, repeated and reordered
 pub carry_scene : (old new : Values) (messages : List AtsMessage) → KeepsRest old new → new.traffic ≡ record old.traffic { messages = messages }
     → ((scene : Scene) → IsSceneOf old scene → IsFaithful scene → (message : AtsMessage) → Contains messages message → MayBeSent scene message ⊎ Contains scene.messages message)
-    → HasFaithfulScene old → HasFaithfulScene new
-carry_scene old new messages rest traffic may (scene, shows, facts) =
+    → (walks : List Walk) → HasSceneWith old walks → HasSceneWith new walks
+carry_scene old new messages rest traffic may walks (scene, shows, facts) =
     let next = with_traffic scene new.traffic in (
       next,
       shows_traffic old new scene rest shows,
-      transitions_keep_facts CarryMessages scene next facts (
+      facts_kept CarryMessages scene next walks walks refl facts (
         messages,
-        may scene shows facts,
+        may scene shows facts.copies,
         own_traffic old scene (λ (t : Traffic). record t { messages = messages }) new.traffic shows traffic,
       ),
     )
@@ -75,11 +76,11 @@ messages_as values scene message shows there = subst (λ (t : Traffic). Contains
 -- AN ANSWER IS KEPT, and is under way no more
 pub keep_entry_scene : (old new : Values) (epoch : ℕ) (copy : Copy) (kept : List Copy) (messages : List AtsMessage) → KeepsRest old new
     → new.traffic ≡ record old.traffic { entries = kept; messages = messages } → Contains old.traffic.messages (Answer epoch copy) → epoch ≡ old.traffic.epoch_of copy.device
-    → AreAmongWith kept copy old.traffic.entries → AreAmong messages old.traffic.messages → HasFaithfulScene old → HasFaithfulScene new
-keep_entry_scene old new epoch copy kept messages rest traffic there current among fewer (scene, shows, facts) =
+    → AreAmongWith kept copy old.traffic.entries → AreAmong messages old.traffic.messages → (walks : List Walk) → HasSceneWith old walks → HasSceneWith new walks
+keep_entry_scene old new epoch copy kept messages rest traffic there current among fewer walks (scene, shows, facts) =
     let between : Scene = record scene { entries = kept } in
     let next = with_traffic scene new.traffic in
-    let held = transitions_keep_facts (DeliverAnswer copy) scene between facts (
+    let held = facts_kept (DeliverAnswer copy) scene between walks walks refl facts (
       epoch,
       kept,
       messages_as old scene (Answer epoch copy) shows there,
@@ -89,7 +90,7 @@ keep_entry_scene old new epoch copy kept messages rest traffic there current amo
     ) in (
       next,
       shows_traffic old new scene rest shows,
-      transitions_keep_facts CarryMessages between next held (
+      facts_kept CarryMessages between next walks walks refl held (
         messages,
         (λ message one. inr (messages_as old scene message shows (fewer message one))),
         own_traffic old scene (λ (t : Traffic). record t { entries = kept; messages = messages }) new.traffic shows traffic,
@@ -100,13 +101,13 @@ keep_entry_scene old new epoch copy kept messages rest traffic there current amo
 pub obey_scene : (old new : Values) (invalidation : Invalidation) (extent : Extent) (left : List Copy) (messages : List AtsMessage) → KeepsRest old new
     → new.traffic ≡ record old.traffic { entries = left; epoch_of = raised old.kind_of old.traffic.epoch_of invalidation.device; messages = messages }
     → Contains old.traffic.messages (InvalidateRequest invalidation extent) → AreOutside left invalidation.device extent old.traffic.entries
-    → AreAmongWith messages (InvalidateCompletion invalidation) old.traffic.messages → HasFaithfulScene old → HasFaithfulScene new
-obey_scene old new invalidation extent left messages rest traffic there outside among (scene, shows, facts) =
+    → AreAmongWith messages (InvalidateCompletion invalidation) old.traffic.messages → (walks : List Walk) → HasSceneWith old walks → HasSceneWith new walks
+obey_scene old new invalidation extent left messages rest traffic there outside among walks (scene, shows, facts) =
     let next = with_traffic scene new.traffic in
     let kinds : old.kind_of ≡ scene.kind_of = same_function old.kind_of scene.kind_of (λ d. sym (shows.kinds d)) in (
       next,
       shows_traffic old new scene rest shows,
-      transitions_keep_facts (DeliverRequest invalidation extent) scene next facts (
+      facts_kept (DeliverRequest invalidation extent) scene next walks walks refl facts (
         left,
         messages,
         messages_as old scene (InvalidateRequest invalidation extent) shows there,
@@ -121,12 +122,12 @@ obey_scene old new invalidation extent left messages rest traffic there outside 
 pub close_scene : (old new : Values) (invalidation : Invalidation) (slots : List Invalidation) (messages : List AtsMessage) → KeepsRest old new
     → new.traffic ≡ record old.traffic { slots = slots; messages = messages } → Contains old.traffic.messages (InvalidateCompletion invalidation)
     → AreAmong slots old.traffic.slots → ((slot : Invalidation) → Contains old.traffic.slots slot → (slot ≡ invalidation) ⊎ Contains slots slot)
-    → AreAmong messages old.traffic.messages → HasFaithfulScene old → HasFaithfulScene new
-close_scene old new invalidation slots messages rest traffic there fewer others among (scene, shows, facts) =
+    → AreAmong messages old.traffic.messages → (walks : List Walk) → HasSceneWith old walks → HasSceneWith new walks
+close_scene old new invalidation slots messages rest traffic there fewer others among walks (scene, shows, facts) =
     let next = with_traffic scene new.traffic in (
       next,
       shows_traffic old new scene rest shows,
-      transitions_keep_facts (DeliverCompletion invalidation) scene next facts (
+      facts_kept (DeliverCompletion invalidation) scene next walks walks refl facts (
         slots,
         messages,
         messages_as old scene (InvalidateCompletion invalidation) shows there,

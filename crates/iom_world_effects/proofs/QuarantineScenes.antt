@@ -8,13 +8,14 @@ use Rattle.iom_coherence.specs.Faithful.{IsFaithful}
 use Rattle.iom_coherence.specs.Transitions.{Quarantine}
 use Rattle.iom_coherence.specs.Queue.{Fence}
 use Rattle.iom_coherence.specs.Scene.{Scene}
-use Rattle.iom_coherence.proofs.TransitionLemmas.{transitions_keep_facts}
+use Rattle.iom_walk_coherence.specs.Walks.{Walk}
+use Rattle.iom_world_effects.proofs.FactsKept.{facts_kept}
 use Rattle.iom_ledger.specs.declared.entry.HistoryEntry.TheVariants.{AllReleased}
 use Rattle.iom_ledger.specs.History.{History, confirms}
 use Rattle.iom_ledger.specs.Shown.{Agrees}
 use Rattle.iom_machine.specs.declared.state.Attachment.{Attachment}
 use Rattle.iom_machine.specs.declared.state.Attachment.TheVariants.{Detached, Attached, Quarantined, Leaving}
-use Rattle.iom_world_effects.specs.Scenes.{Values, GoesInOrder, IsSceneOf, HasFaithfulScene}
+use Rattle.iom_world_effects.specs.Scenes.{Values, GoesInOrder, IsSceneOf, HasSceneWith}
 use Rattle.iom_world_effects.proofs.QueuedLemmas.{come_on}
 use Rattle.iom_world_effects.proofs.SceneCalls.{AttachesOne, QueuesTicket, ticket_shows}
 
@@ -47,18 +48,18 @@ all_leave old new scene id number mode ats shows cut fences d = elim (eqb_tells 
 pub quarantine_scene : (old new : Values) (id : ℕ) (mode : Mode) (ats : Bool) (commands : List QueueEntry) → QueuesTicket old new commands (leave_commands id)
     → old.attachment_of id ≡ Attached mode ats → AttachesOne old new id (Quarantined (old.given + 1) mode ats)
     → ((h : History) → Agrees old.ledger h → confirms h (old.given + 1) ≡ false → Agrees new.ledger (AllReleased id (old.given + 1) ∷ h))
-    → HasFaithfulScene old → HasFaithfulScene new
-quarantine_scene old new id mode ats commands queues attached cut agrees (scene, shows, facts) =
+    → (walks : List Walk) → HasSceneWith old walks → HasSceneWith new walks
+quarantine_scene old new id mode ats commands queues attached cut agrees walks (scene, shows, facts) =
     let ordered = queues.ordered in
     let ticket = scene.given + 1 in
     let now = attachments_with scene.attachment_of id (Quarantined ticket mode ats) in
     let next : Scene = record (with_ticket scene (leave_commands id)) { history = AllReleased id ticket ∷ scene.history; attachment_of = now } in
     let cut_so : AttachesOne old new id (Quarantined ticket mode ats) = rw shows.given cut in
     let agreed : Agrees new.ledger (AllReleased id ticket ∷ scene.history) =
-    rw shows.given (agrees scene.history shows.ledger (not_confirmed old scene (old.given + 1) shows facts (omega (arith, ordered)))) in (
+    rw shows.given (agrees scene.history shows.ledger (not_confirmed old scene (old.given + 1) shows facts.copies (omega (arith, ordered)))) in (
       next,
       ticket_shows old new scene commands (leave_commands id) shows queues (AllReleased id ticket ∷ scene.history) now agreed
           (λ d. ap (λ before. if id == d then Quarantined ticket mode ats else before) (shows.attachments d) ∙ sym (cut_so d))
           (all_leave old new scene id (scene.last_fence + 1) mode ats shows cut queues.cached.fences),
-      transitions_keep_facts (Quarantine id) scene next facts (mode, ats, shows.attachments id ∙ attached, refl),
+      facts_kept (Quarantine id) scene next walks walks refl facts (mode, ats, shows.attachments id ∙ attached, refl),
     )

@@ -51,7 +51,7 @@ pending_cached parts events invariants id there ticket stage is = by (nat_lt par
     by : (b : Bool) → nat_lt parts.driver.confirmed ticket ≡ b → parts.driver.confirmed < ticket
     by true low = leb-true (suc parts.driver.confirmed) ticket low
     by false high = absurd (not_there invariants.copies (λ (scene, shown, facts).
-        let low = above scene shown facts in let most = leb-false (suc parts.driver.confirmed) ticket high in omega (arith, low, most)))
+        let low = above scene shown facts.copies in let most = leb-false (suc parts.driver.confirmed) ticket high in omega (arith, low, most)))
 
 -- it holds nothing
 pub quarantined_holds : (d : DriverState) → DriverInvariant d → (history : History) → Agrees d.ledger history → (id ticket : ℕ) (stage : Stages)

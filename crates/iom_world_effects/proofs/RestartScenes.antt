@@ -9,7 +9,8 @@ use Rattle.iom_coherence.specs.Transitions.{Restart}
 use Rattle.iom_coherence.specs.Queue.{QueuedCommand, Fence}
 use Rattle.iom_coherence.specs.Scene.{Scene}
 use Rattle.iom_coherence.proofs.ListLemmas.{contains_head, same_function}
-use Rattle.iom_coherence.proofs.TransitionLemmas.{transitions_keep_facts}
+use Rattle.iom_walk_coherence.specs.Walks.{Walk}
+use Rattle.iom_world_effects.proofs.FactsKept.{facts_kept}
 use Rattle.iom_driver.specs.Appends.{fence}
 use Rattle.iom_ledger.specs.History.{History}
 use Rattle.iom_ledger.specs.Shown.{Agrees}
@@ -19,7 +20,7 @@ use Rattle.iom_tlb.specs.declared.space.Space.{Space}
 use Rattle.iom_tlb.specs.declared.trans_cache.Translation.{Translation}
 use Rattle.iom_tlb.specs.Content.{Key}
 use Rattle.iom_world_effects.specs.Queued.{AreQueuedAs, ComeBefore, pending_after}
-use Rattle.iom_world_effects.specs.Scenes.{Values, IsSomebodys, GoesInOrder, IsSceneOf, HasFaithfulScene}
+use Rattle.iom_world_effects.specs.Scenes.{Values, IsSomebodys, GoesInOrder, IsSceneOf, HasSceneWith}
 use Rattle.iom_world_effects.specs.Traffic.{Traffic}
 use Rattle.iom_world_effects.proofs.QueuedLemmas.{queued_append, queued_still, come_up_to}
 
@@ -117,9 +118,9 @@ module _ (old new : Values) (scene : Scene) (devices : List ℕ) (commands : Lis
           record { device = was.device; own = all.spaces was.device key.0 was.own; there = was.there }
 
 -- THE QUEUE IS EMPTIED, and what is still needed is queued anew
-pub restart_scene : (old new : Values) (devices : List ℕ) (commands : List QueueEntry) → RestartsAll old new devices commands → HasFaithfulScene old → HasFaithfulScene new
-restart_scene old new devices commands all (scene, shows, facts) = (
+pub restart_scene : (old new : Values) (devices : List ℕ) (commands : List QueueEntry) → RestartsAll old new devices commands → (walks : List Walk) → HasSceneWith old walks → HasSceneWith new walks
+restart_scene old new devices commands all walks (scene, shows, facts) = (
   restarted scene devices,
   restarted_shows old new scene devices commands shows all,
-  transitions_keep_facts (Restart devices) scene (restarted scene devices) facts ((λ d is. all.known d (subst IsKnown (shows.attachments d) is)), refl),
+  facts_kept (Restart devices) scene (restarted scene devices) walks walks refl facts ((λ d is. all.known d (subst IsKnown (shows.attachments d) is)), refl),
 )

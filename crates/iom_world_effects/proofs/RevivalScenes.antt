@@ -6,12 +6,14 @@ use Rattle.iom_coherence.specs.DriverCalls.{attachments_with}
 use Rattle.iom_coherence.specs.Transitions.{Revive}
 use Rattle.iom_coherence.specs.Scene.{Copy, Scene}
 use Rattle.iom_coherence.proofs.ListLemmas.{same_function}
-use Rattle.iom_coherence.proofs.TransitionLemmas.{transitions_keep_facts}
+use Rattle.iom_walk_coherence.specs.Transitions.{AreOfOthers}
+use Rattle.iom_walk_coherence.specs.Walks.{Walk}
+use Rattle.iom_world_effects.proofs.FactsKept.{facts_kept}
 use Rattle.iom_machine.specs.declared.state.Attachment.TheVariants.{Attached, Quarantined}
 use Rattle.iom_tlb.specs.declared.space.Space.{Space}
 use Rattle.iom_tlb.specs.declared.trans_cache.Translation.{Translation}
 use Rattle.iom_tlb.specs.Content.{Key}
-use Rattle.iom_world_effects.specs.Scenes.{Values, IsSceneOf, HasFaithfulScene}
+use Rattle.iom_world_effects.specs.Scenes.{Values, IsSceneOf, HasSceneWith}
 use Rattle.iom_world_effects.specs.Traffic.{Traffic, under_way}
 use Rattle.iom_world_effects.proofs.QueuedLemmas.{queued_still}
 use Rattle.iom_world_effects.proofs.ResetScenes.{reset_traffic}
@@ -78,12 +80,13 @@ shows_revived old new id left scene revives shows = record {
 }
 
 -- A DEVICE IS REVIVED
-pub revival_scene : (old new : Values) (id : ℕ) (left : List Copy) → RevivesOne old new id left → HasFaithfulScene old → HasFaithfulScene new
-revival_scene old new id left revives (scene, shows, facts) =
+pub revival_scene : (old new : Values) (id : ℕ) (left : List Copy) → RevivesOne old new id left → (walks standing : List Walk) → AreOfOthers standing id walks
+    → HasSceneWith old walks → HasSceneWith new standing
+revival_scene old new id left revives walks standing of_others (scene, shows, facts) =
     let next = revived scene id revives.mode revives.ats left in (
       next,
       shows_revived old new id left scene revives shows,
-      transitions_keep_facts (Revive id) scene next facts (
+      facts_kept (Revive id) scene next walks standing of_others facts (
         revives.ticket,
         revives.mode,
         revives.ats,

@@ -13,7 +13,6 @@ use Rattle.iom_coherence.specs.Faithful.{GrantsFit, IsFaithful}
 use Rattle.iom_coherence.specs.Queue.{Extent, WholeSpace, QueuedCommand, DropTranslations, DropContext, Fence}
 use Rattle.iom_coherence.specs.Transitions.{Plug, Attach, Grant, Release, Detach}
 use Rattle.iom_coherence.specs.Scene.{Copy, Scene}
-use Rattle.iom_coherence.proofs.TransitionLemmas.{transitions_keep_facts}
 use Rattle.iom_driver.specs.Appends.{fence}
 use Rattle.iom_ledger.specs.declared.entry.HistoryEntry.TheVariants.{Granted, Released}
 use Rattle.iom_ledger.specs.Shown.{Agrees, held_in, lingering_in, released_in}
@@ -25,9 +24,11 @@ use Rattle.iom_tlb.specs.declared.space.Space.{Space}
 use Rattle.iom_tlb.specs.declared.trans_cache.Translation.{Translation}
 use Rattle.iom_tlb.specs.Content.{Key}
 use Rattle.iom_world_effects.specs.Queued.{AreQueuedAs, ComeBefore, pending_after}
-use Rattle.iom_world_effects.specs.Scenes.{Values, copy_of, IsSomebodys, GoesInOrder, IsSceneOf, HasFaithfulScene}
+use Rattle.iom_world_effects.specs.Scenes.{Values, copy_of, IsSomebodys, GoesInOrder, IsSceneOf, HasSceneWith}
 use Rattle.iom_world_effects.proofs.QueuedLemmas.{SpacesStay, queued_append, queued_still, come_on, come_up_to, none_left, pending_next}
 use Rattle.iom_world_effects.proofs.ConfirmScenes.{left_after, confirmed_scene, AreDone, confirm_all}
+use Rattle.iom_walk_coherence.specs.Walks.{Walk}
+use Rattle.iom_world_effects.proofs.FactsKept.{facts_kept}
 
 -- what is cached of translations is as it was, or less; the fence at the head counted as many; who has a number keeps it; and the same is under way to
 -- and from the devices' caches
@@ -96,8 +97,8 @@ same_scene_of old new scene same shows = record {
   stopped = shows.stopped ∙ sym same.cached.stopped;
 }
 
-pub same_scene : (old new : Values) → AreSameValues old new → HasFaithfulScene old → HasFaithfulScene new
-same_scene old new same (scene, shows, facts) = (scene, same_scene_of old new scene same shows, facts)
+pub same_scene : (old new : Values) → AreSameValues old new → (walks : List Walk) → HasSceneWith old walks → HasSceneWith new walks
+same_scene old new same walks (scene, shows, facts) = (scene, same_scene_of old new scene same shows, facts)
 
 -- what the history says of a page, where the ledger has nothing there
 lingers_none : (released : Option (ℕ × Pair)) → option_map (λ (r : ℕ × Pair). r.1) released ≡ None → option_to_list released ≡ []
@@ -124,8 +125,8 @@ pub record PlugsOne (old new : Values) (id : ℕ) (kind : DeviceKind) : Type 0 w
   pub contexts : (d : ℕ) → new.is_cached d ≡ true → old.is_cached d ≡ true
   pub cached : KeepsCached old new
 
-pub plug_scene : (old new : Values) (id : ℕ) (kind : DeviceKind) → PlugsOne old new id kind → HasFaithfulScene old → HasFaithfulScene new
-plug_scene old new id kind plugs (scene, shows, facts) =
+pub plug_scene : (old new : Values) (id : ℕ) (kind : DeviceKind) → PlugsOne old new id kind → (walks : List Walk) → HasSceneWith old walks → HasSceneWith new walks
+plug_scene old new id kind plugs walks (scene, shows, facts) =
     let next : Scene = record scene { kind_of = with_kind scene.kind_of id kind } in (
       next,
       record {
@@ -147,7 +148,7 @@ plug_scene old new id kind plugs (scene, shows, facts) =
         traffic = shows.traffic ∙ sym plugs.cached.traffic;
         stopped = shows.stopped ∙ sym plugs.cached.stopped;
       },
-      transitions_keep_facts (Plug id kind) scene next facts (shows.kinds id ∙ plugs.free, refl),
+      facts_kept (Plug id kind) scene next walks walks refl facts (shows.kinds id ∙ plugs.free, refl),
     )
 
 -- the attachments, where this device is attached so now
@@ -185,8 +186,8 @@ pub record AttachesDetached (old new : Values) (id : ℕ) (mode : Mode) (ats : B
   pub contexts : (d : ℕ) → new.is_cached d ≡ true → old.is_cached d ≡ true
   pub cached : KeepsCached old new
 
-pub attach_scene : (old new : Values) (id : ℕ) (mode : Mode) (ats : Bool) → AttachesDetached old new id mode ats → HasFaithfulScene old → HasFaithfulScene new
-attach_scene old new id mode ats attaches (scene, shows, facts) =
+pub attach_scene : (old new : Values) (id : ℕ) (mode : Mode) (ats : Bool) → AttachesDetached old new id mode ats → (walks : List Walk) → HasSceneWith old walks → HasSceneWith new walks
+attach_scene old new id mode ats attaches walks (scene, shows, facts) =
     let next : Scene = record scene { attachment_of = attachments_with scene.attachment_of id (Attached mode ats) } in (
       next,
       record {
@@ -208,7 +209,7 @@ attach_scene old new id mode ats attaches (scene, shows, facts) =
         traffic = shows.traffic ∙ sym attaches.cached.traffic;
         stopped = shows.stopped ∙ sym attaches.cached.stopped;
       },
-      transitions_keep_facts (Attach id mode ats) scene next facts
+      facts_kept (Attach id mode ats) scene next walks walks refl facts
           (shows.attachments id ∙ attaches.detached, (λ with. ap caches_translations (shows.kinds id) ∙ attaches.trusted with), refl),
     )
 
@@ -239,8 +240,8 @@ is_attached_so attachment mode ats is = rw is refl
 none_in : {X : Type 0} (xs : List X) (x : X) → xs ≡ [] → ¬ Contains xs x
 none_in xs x none there = in_none x (subst (λ l. Contains l x) none there)
 
-pub grant_scene : (old new : Values) (id page frame : ℕ) (rights : Rights) → GrantsOne old new id page frame rights → HasFaithfulScene old → HasFaithfulScene new
-grant_scene old new id page frame rights grants (scene, shows, facts) =
+pub grant_scene : (old new : Values) (id page frame : ℕ) (rights : Rights) → GrantsOne old new id page frame rights → (walks : List Walk) → HasSceneWith old walks → HasSceneWith new walks
+grant_scene old new id page frame rights grants walks (scene, shows, facts) =
     let next : Scene = record scene { history = Granted id page frame rights ∷ scene.history } in (
       next,
       record {
@@ -262,7 +263,7 @@ grant_scene old new id page frame rights grants (scene, shows, facts) =
         traffic = shows.traffic ∙ sym grants.cached.traffic;
         stopped = shows.stopped ∙ sym grants.cached.stopped;
       },
-      transitions_keep_facts (Grant id page frame rights) scene next facts (
+      facts_kept (Grant id page frame rights) scene next walks walks refl facts (
         is_attached_so (scene.attachment_of id) grants.mode grants.ats (shows.attachments id ∙ grants.attached),
         (shows.ledger.pages id page).holds ∙ grants.not_held,
         (λ released. none_in (lingering_at scene.history id page) released (nothing_lingers old scene id page shows grants.not_lingering)),
@@ -370,33 +371,33 @@ pub release_scene : (old new : Values) (id page : ℕ) (mode : Mode) (ats : Bool
     → QueuesTicket old new commands (queued_by_release id (released_extent mode page) ats)
     → old.attachment_of id ≡ Attached mode ats → ((d : ℕ) → new.attachment_of d ≡ old.attachment_of d)
     → ((h : History) → Agrees old.ledger h → confirms h (old.given + 1) ≡ false → Agrees new.ledger (Released id page (old.given + 1) ∷ h))
-    → HasFaithfulScene old → HasFaithfulScene new
-release_scene old new id page mode ats commands queues attached same agrees (scene, shows, facts) =
+    → (walks : List Walk) → HasSceneWith old walks → HasSceneWith new walks
+release_scene old new id page mode ats commands queues attached same agrees walks (scene, shows, facts) =
     let queued = queued_by_release id (released_extent mode page) ats in
     let ordered = queues.ordered in
     let next : Scene = record (with_ticket scene queued) { history = Released id page (scene.given + 1) ∷ scene.history } in
     let agreed : Agrees new.ledger (Released id page (scene.given + 1) ∷ scene.history) =
-    rw shows.given (agrees scene.history shows.ledger (unconfirmed_next old scene (old.given + 1) shows facts (omega (arith, ordered)))) in (
+    rw shows.given (agrees scene.history shows.ledger (unconfirmed_next old scene (old.given + 1) shows facts.copies (omega (arith, ordered)))) in (
       next,
       ticket_shows old new scene commands queued shows queues (Released id page (scene.given + 1) ∷ scene.history) scene.attachment_of agreed (λ d. shows.attachments d ∙ sym (same d))
           (λ d. rw (queues.cached.fences, same d)
           (release_goes old scene id (scene.last_fence + 1) d (released_extent mode page) mode ats (old.attachment_of d) attached refl (shows.leaving d))),
-      transitions_keep_facts (Release id page) scene next facts (mode, ats, shows.attachments id ∙ attached, refl),
+      facts_kept (Release id page) scene next walks walks refl facts (mode, ats, shows.attachments id ∙ attached, refl),
     )
 
 -- DETACH
 pub detach_scene : (old new : Values) (id : ℕ) (mode : Mode) (ats : Bool) (commands : List QueueEntry) → QueuesTicket old new commands (leave_commands id)
     → old.attachment_of id ≡ Attached mode ats → AttachesOne old new id (Leaving (old.given + 1) mode ats)
     → ((page : ℕ) → (held_in old.ledger id page ≡ None) × (lingering_in old.ledger id page ≡ None))
-    → ((h : History) → Agrees old.ledger h → Agrees new.ledger h) → HasFaithfulScene old → HasFaithfulScene new
-detach_scene old new id mode ats commands queues attached leaves nothing agrees (scene, shows, facts) =
+    → ((h : History) → Agrees old.ledger h → Agrees new.ledger h) → (walks : List Walk) → HasSceneWith old walks → HasSceneWith new walks
+detach_scene old new id mode ats commands queues attached leaves nothing agrees walks (scene, shows, facts) =
     let now = attachments_with scene.attachment_of id (Leaving (scene.given + 1) mode ats) in
     let next : Scene = record (with_ticket scene (leave_commands id)) { attachment_of = now } in
     let leaves_so : AttachesOne old new id (Leaving (scene.given + 1) mode ats) = rw shows.given leaves in (
       next,
       ticket_shows old new scene commands (leave_commands id) shows queues scene.history now (agrees scene.history shows.ledger) (attached_as old new scene id (Leaving (scene.given + 1) mode ats) shows leaves_so)
           (λ d. rw (queues.cached.fences, leaves d) (goes d (id == d) refl)),
-      transitions_keep_facts (Detach id) scene next facts (
+      facts_kept (Detach id) scene next walks walks refl facts (
         mode,
         ats,
         shows.attachments id ∙ attached,
@@ -493,8 +494,8 @@ left_alike : (first n : ℕ) (one other : ℕ → Attachment) (d : ℕ) → ((e 
 left_alike first zero one other d same = same d
 left_alike first (suc n) one other d same = ap (attachment_once_confirmed (first + n + 1)) (left_alike first n one other d same)
 
-pub poll_scene : (old new : Values) (n rest : ℕ) → ConfirmsSome old new n rest → HasFaithfulScene old → HasFaithfulScene new
-poll_scene old new n rest confirms_some (scene, shows, facts) =
+pub poll_scene : (old new : Values) (n rest : ℕ) → ConfirmsSome old new n rest → (walks : List Walk) → HasSceneWith old walks → HasSceneWith new walks
+poll_scene old new n rest confirms_some walks (scene, shows, facts) =
     let c = shows.confirmed in
     let pending : scene.pending ≡ pending_after old.fence_of scene.confirmed (n + rest) =
     shows.pending ∙ ap (pending_after old.fence_of old.confirmed) confirms_some.many ∙ ap (λ k. pending_after old.fence_of k (n + rest)) (sym c) in
@@ -521,7 +522,7 @@ poll_scene old new n rest confirms_some (scene, shows, facts) =
         traffic = shows.traffic ∙ sym confirms_some.traffic;
         stopped = shows.stopped ∙ sym confirms_some.stopped;
       },
-      confirm_all old.fence_of scene n rest facts pending done,
+      confirm_all old.fence_of scene n rest walks facts pending done,
     )
   where
     done_now : AreDone old.fence_of old.confirmed n scene.completed
@@ -530,7 +531,7 @@ poll_scene old new n rest confirms_some (scene, shows, facts) =
     stay : SpacesStay old.space_of new.space_of scene.waiting
     stay device space extent there own = elim (confirms_some.spaces device space own) [
       | inl now ↦ now
-      | inr left ↦ absurd (none_queued old.fence_of scene device extent (old.attachment_of device) old.confirmed n facts (shows.leaving device) left done_now there)
+      | inr left ↦ absurd (none_queued old.fence_of scene device extent (old.attachment_of device) old.confirmed n facts.copies (shows.leaving device) left done_now there)
     ]
 
     still : (key : Key) (translation : Translation) → new.translations key ≡ Some translation → IsSomebodys new.space_of scene.translations key translation
@@ -538,5 +539,5 @@ poll_scene old new n rest confirms_some (scene, shows, facts) =
         let was = shows.translations key translation (sym (ap (λ c. c key) confirms_some.translations) ∙ at) in
         elim (confirms_some.spaces was.device key.0 was.own) [
           | inl now ↦ record { device = was.device; own = now; there = was.there }
-          | inr left ↦ absurd (none_cached scene (copy_of was.device key.1 translation) (old.attachment_of was.device) old.confirmed (old.confirmed + n) facts (shows.attachments was.device) left was.there)
+          | inr left ↦ absurd (none_cached scene (copy_of was.device key.1 translation) (old.attachment_of was.device) old.confirmed (old.confirmed + n) facts.copies (shows.attachments was.device) left was.there)
         ]

@@ -22,7 +22,6 @@ use Rattle.iom_coherence.specs.Transitions.{KeepContext, KeepTranslation, Accept
 use Rattle.iom_coherence.specs.Requests.{IsWalked, IsSource, next_access}
 use Rattle.iom_coherence.specs.Scene.{Copy, AccessInFlight, AtsMessage, InvalidateRequest, Invalidation, Scene, FenceSnapshot}
 use Rattle.iom_coherence.proofs.ListLemmas.{in_none, cons_cases, contains_head, contains_tail, contains_filter, contains_from_filter}
-use Rattle.iom_coherence.proofs.TransitionLemmas.{transitions_keep_facts}
 use Rattle.iom_driver.specs.Appends.{fence}
 use Rattle.iom_driver.proofs.Lists.{differs}
 use Rattle.iom_ledger.specs.declared.ledger.Ledger.{Ledger}
@@ -40,8 +39,11 @@ use Rattle.iom_tlb.specs.Invalidations.{covers_of}
 use Rattle.iom_tlb.proofs.LargeLemmas.{own_leaf}
 use Rattle.iom_world_effects.specs.Queued.{invalidation_in, extent_in, IsInvalidation, IsQueuedAs, AreQueuedAs}
 use Rattle.iom_world_effects.proofs.QueuedLemmas.{SpacesStay, queued_first, queued_still, come_after}
-use Rattle.iom_world_effects.specs.Scenes.{Values, copy_of, IsSomebodys, IsSnapshotOf, GoesInOrder, IsSceneOf, HasFaithfulScene}
+use Rattle.iom_world_effects.specs.Scenes.{Values, copy_of, IsSomebodys, IsSnapshotOf, GoesInOrder, IsSceneOf, HasSceneWith, HasFaithfulScene, FactsHold}
+use Rattle.iom_walk_coherence.specs.Transitions.{AreBegunAnew}
+use Rattle.iom_walk_coherence.specs.Walks.{Walk}
 use Rattle.iom_world_effects.specs.Messages.{range_of}
+use Rattle.iom_world_effects.proofs.FactsKept.{facts_kept}
 use Rattle.iom_world_effects.specs.Traffic.{Traffic, under_way, extent_of_range, invalidation_by}
 
 -- what neither a request nor a commit nor a fetch changes
@@ -142,8 +144,8 @@ is_attached attachment mode ats is = rw is refl
 
 -- A CONTEXT IS KEPT: that of an attached device; of what was cached nothing else comes
 pub keep_scene : (old new : Values) (id : ℕ) (mode : Mode) (ats : Bool) → KeepsGrants old new → KeepsQueue old new → new.so_far ≡ old.so_far → new.in_flight ≡ old.in_flight → CachesNoMore old new
-    → old.attachment_of id ≡ Attached mode ats → ((d : ℕ) → new.is_cached d ≡ true → (old.is_cached d ≡ true) ⊎ (d ≡ id)) → HasFaithfulScene old → HasFaithfulScene new
-keep_scene old new id mode ats keeps queue so_far in_flight less attached cached (scene, shows, facts) =
+    → old.attachment_of id ≡ Attached mode ats → ((d : ℕ) → new.is_cached d ≡ true → (old.is_cached d ≡ true) ⊎ (d ≡ id)) → (walks : List Walk) → HasSceneWith old walks → HasSceneWith new walks
+keep_scene old new id mode ats keeps queue so_far in_flight less attached cached walks (scene, shows, facts) =
     let next : Scene = record scene { contexts = id ∷ scene.contexts } in (
       next,
       scene_from old new scene next keeps shows refl (record {
@@ -160,7 +162,7 @@ keep_scene old new id mode ats keeps queue so_far in_flight less attached cached
         leaving = shows.leaving;
         traffic = shows.traffic ∙ sym queue.traffic;
       }),
-      transitions_keep_facts (KeepContext id) scene next facts (
+      facts_kept (KeepContext id) scene next walks walks refl facts (
         id ∷ scene.contexts,
         is_attached (scene.attachment_of id) mode ats (shows.attachments id ∙ attached),
         (λ d there. elim (cons_cases id scene.contexts d there) [ inl same ↦ inl (sym same) | inr before ↦ inr before ]),
@@ -195,8 +197,8 @@ pub record KeepsWalked (old new : Values) (id page : ℕ) (space : Space) (trans
       → (old.translations key ≡ Some other) ⊎ ((key ≡ (space, page)) × (other ≡ translation))
 
 pub walk_scene : (old new : Values) (id page : ℕ) (space : Space) (translation : Translation) → KeepsGrants old new → KeepsQueue old new → new.so_far ≡ old.so_far → new.in_flight ≡ old.in_flight
-    → ((d : ℕ) → new.is_cached d ≡ true → old.is_cached d ≡ true) → KeepsWalked old new id page space translation → HasFaithfulScene old → HasFaithfulScene new
-walk_scene old new id page space translation keeps queue so_far in_flight cached walks (scene, shows, facts) =
+    → ((d : ℕ) → new.is_cached d ≡ true → old.is_cached d ≡ true) → KeepsWalked old new id page space translation → (walks : List Walk) → HasSceneWith old walks → HasSceneWith new walks
+walk_scene old new id page space translation keeps queue so_far in_flight cached walked walks (scene, shows, facts) =
     let copy : Copy = copy_of id page translation in
     let next : Scene = record scene { translations = copy ∷ scene.translations } in (
       next,
@@ -211,9 +213,9 @@ walk_scene old new id page space translation keeps queue so_far in_flight cached
         leaving = shows.leaving;
         traffic = shows.traffic ∙ sym queue.traffic;
       }),
-      transitions_keep_facts (KeepTranslation copy) scene next facts (
+      facts_kept (KeepTranslation copy) scene next walks walks refl facts (
         copy ∷ scene.translations,
-        walked_there old scene id page walks.mode walks.ats translation shows walks.attached walks.held,
+        walked_there old scene id page walked.mode walked.ats translation shows walked.attached walked.held,
         (λ other there. elim (cons_cases copy scene.translations other there) [ inl same ↦ inl (sym same) | inr before ↦ inr before ]),
         refl,
       ),
@@ -226,13 +228,13 @@ walk_scene old new id page space translation keeps queue so_far in_flight cached
     page_of key same = ap (λ (k : Key). k.1) same
 
     somebodys : (key : Key) (other : Translation) → new.translations key ≡ Some other → IsSomebodys old.space_of (copy_of id page translation ∷ scene.translations) key other
-    somebodys key other at = elim (walks.either key other at) [
+    somebodys key other at = elim (walked.either key other at) [
       | inl before ↦
           let was = shows.translations key other before in
           record { device = was.device; own = was.own; there = contains_tail (copy_of id page translation) scene.translations (copy_of was.device key.1 other) was.there }
       | inr one ↦ record {
         device = id;
-        own = walks.own ∙ ap Some (first_of key one.0);
+        own = walked.own ∙ ap Some (first_of key one.0);
         there = subst (λ t. Contains (copy_of id page translation ∷ scene.translations) (copy_of id key.1 t)) (sym one.1)
             (subst (λ p. Contains (copy_of id page translation ∷ scene.translations) (copy_of id p translation)) (sym (page_of key one.0)) (contains_head (copy_of id page translation) scene.translations));
       }
@@ -265,8 +267,8 @@ HasSource values copy = (scene : Scene) → IsSceneOf values scene → IsSource 
 pub accept_scene : (old new : Values) (id page : ℕ) (translation : Translation) (kind : AccessKind) → KeepsGrants old new → KeepsQueue old new
     → new.so_far ≡ old.so_far + 1 → AreAmongWith new.in_flight (record { device = id; frame = translation.frame; kind = kind; number = old.so_far + 1 }) old.in_flight
     → ((d : ℕ) → new.is_cached d ≡ true → old.is_cached d ≡ true) → CachesNoMore old new
-    → HasSource old (copy_of id page translation) → allows translation.rights kind ≡ true → HasFaithfulScene old → HasFaithfulScene new
-accept_scene old new id page translation kind keeps queue so_far among cached less source allowed (scene, shows, facts) =
+    → HasSource old (copy_of id page translation) → allows translation.rights kind ≡ true → (walks : List Walk) → HasSceneWith old walks → HasSceneWith new walks
+accept_scene old new id page translation kind keeps queue so_far among cached less source allowed walks (scene, shows, facts) =
     let copy : Copy = copy_of id page translation in
     let next : Scene = record scene { accepted = scene.accepted + 1; in_flight = new.in_flight } in
     let numbered : next_access scene copy kind ≡ record { device = id; frame = translation.frame; kind = kind; number = old.so_far + 1 } =
@@ -283,7 +285,7 @@ accept_scene old new id page translation kind keeps queue so_far among cached le
         leaving = shows.leaving;
         traffic = shows.traffic ∙ sym queue.traffic;
       }),
-      transitions_keep_facts (Accept copy kind) scene next facts (
+      facts_kept (Accept copy kind) scene next walks walks refl facts (
         new.in_flight,
         source scene shows,
         allowed,
@@ -294,8 +296,8 @@ accept_scene old new id page translation kind keeps queue so_far among cached le
 
 -- AN ACCESS IS MADE, or none is
 pub make_scene : (old new : Values) → KeepsGrants old new → KeepsQueue old new → new.so_far ≡ old.so_far
-    → AreAmong new.in_flight old.in_flight → ((d : ℕ) → new.is_cached d ≡ true → old.is_cached d ≡ true) → CachesNoMore old new → HasFaithfulScene old → HasFaithfulScene new
-make_scene old new keeps queue so_far among cached less (scene, shows, facts) =
+    → AreAmong new.in_flight old.in_flight → ((d : ℕ) → new.is_cached d ≡ true → old.is_cached d ≡ true) → CachesNoMore old new → (walks : List Walk) → HasSceneWith old walks → HasSceneWith new walks
+make_scene old new keeps queue so_far among cached less walks (scene, shows, facts) =
     let next : Scene = record scene { in_flight = new.in_flight } in (
       next,
       scene_from old new scene next keeps shows refl (record {
@@ -309,7 +311,7 @@ make_scene old new keeps queue so_far among cached less (scene, shows, facts) =
         leaving = shows.leaving;
         traffic = shows.traffic ∙ sym queue.traffic;
       }),
-      transitions_keep_facts Make scene next facts (new.in_flight, subst (AreAmong new.in_flight) (sym shows.in_flight) among, refl),
+      facts_kept Make scene next walks walks refl facts (new.in_flight, subst (AreAmong new.in_flight) (sym shows.in_flight) among, refl),
     )
 
 -- A COMMAND IS DONE
@@ -370,6 +372,22 @@ TrafficAfter (IodirInvalDdt device) before after = after ≡ before
 abbrev pub TranslationsAfter : Commanded → Translations → Translations → Type 0
 TranslationsAfter command before after = (key : Key) (translation : Translation) → after key ≡ Some translation
     → (before key ≡ Some translation) × (are_covering (covers_of command) key translation ≡ false)
+
+-- which walks are under way after a command: by IOTINVAL and by IODIR each begins anew
+abbrev pub WalksAfter : Commanded → List Walk → List Walk → Type 0
+WalksAfter (IotinvalVma gscid pscid page) before after = AreBegunAnew after before
+WalksAfter (IotinvalGvma gscid page) before after = AreBegunAnew after before
+WalksAfter (IodirInvalDdt device) before after = AreBegunAnew after before
+WalksAfter (IofenceC store wsi pr pw) before after = after ≡ before
+WalksAfter (AtsInval device range) before after = after ≡ before
+
+-- where none is under way, none is afterwards
+pub no_walks_after : (command : Commanded) → WalksAfter command [] []
+no_walks_after (IotinvalVma gscid pscid page) = λ walk there. there
+no_walks_after (IotinvalGvma gscid page) = λ walk there. there
+no_walks_after (IodirInvalDdt device) = λ walk there. there
+no_walks_after (IofenceC store wsi pr pw) = refl
+no_walks_after (AtsInval device range) = refl
 
 pub record FirstEffect (old new : Values) (command : Commanded) : Type 0 where
   pub keeps : KeepsGrants old new
@@ -450,7 +468,7 @@ empty_counted values none (scene, shows, facts) = by scene.fence_snapshot refl
     by : (fence_snapshot : Option FenceSnapshot) → scene.fence_snapshot ≡ fence_snapshot → values.fence_snapshot ≡ None
     by None is = counted_none values.fence_snapshot scene.fence_snapshot shows.fence_snapshot is
     by (Some taken) is =
-        let head = (facts.order.snapshot_taken taken.fence taken.accepted is).head in
+        let head = (facts.copies.order.snapshot_taken taken.fence taken.accepted is).head in
         let queued : AreQueuedAs values.address values.space_of [] (Fence taken.fence ∷ head.0) =
         subst (λ entries. AreQueuedAs values.address values.space_of entries (Fence taken.fence ∷ head.0)) none (subst (AreQueuedAs values.address values.space_of values.waiting) head.1 shows.waiting) in
         absurd queued
@@ -475,16 +493,16 @@ goes_later fence_of d (Attached mode ats) command later goes = tt
 goes_later fence_of d (Quarantined ticket mode ats) command later goes = tt
 goes_later fence_of d (Leaving ticket mode ats) command later goes = come_after d (fence_of ticket) command later goes
 
-module _ (old new : Values) (scene : Scene) (shows : IsSceneOf old scene) (facts : IsFaithful scene) where
+module _ (old new : Values) (scene : Scene) (shows : IsSceneOf old scene) (walks : List Walk) (facts : FactsHold scene walks) (left : List Walk) where
   -- a command that is no fence leaves the snapshot, of which there is none
   drops_translations : (device : ℕ) (extent : Extent) (later : List QueuedCommand) (command : Commanded) → DropsAlone old new command
       → scene.waiting ≡ DropTranslations device extent ∷ later → IsInvalidation old.space_of device extent command → AreQueuedAs old.address old.space_of new.waiting later
-      → HasFaithfulScene new
-  drops_translations device extent later command effect waiting is queued =
+      → AreBegunAnew left walks → HasSceneWith new left
+  drops_translations device extent later command effect waiting is queued anew =
       let outside : Copy → Bool = λ copy. not ((device == copy.device) && extent_covers extent copy.page) in
-      let left = filter outside scene.translations in
-      let next : Scene = record scene { waiting = later; translations = left } in
-      let none = snapshot_none scene (DropTranslations device extent) later scene.fence_snapshot facts waiting (λ number same. cc) refl in (
+      let others = filter outside scene.translations in
+      let next : Scene = record scene { waiting = later; translations = others } in
+      let none = snapshot_none scene (DropTranslations device extent) later scene.fence_snapshot facts.copies waiting (λ number same. cc) refl in (
         next,
         scene_from old new scene next effect.keeps shows refl (record {
           waiting = queued;
@@ -497,9 +515,9 @@ module _ (old new : Values) (scene : Scene) (shows : IsSceneOf old scene) (facts
           leaving = λ d. goes_later old.fence_of d (old.attachment_of d) (DropTranslations device extent) later (subst (GoesInOrder old.fence_of d (old.attachment_of d)) waiting (shows.leaving d));
           traffic = shows.traffic ∙ sym effect.traffic;
         }),
-        transitions_keep_facts (FetchIotinval device extent) scene next facts (
+        facts_kept (FetchIotinval device extent) scene next walks left anew facts (
           later,
-          left,
+          others,
           waiting,
           (λ copy there. let kept = contains_from_filter outside scene.translations copy there in (kept.0, not_true ((device == copy.device) && extent_covers extent copy.page) kept.1)),
           refl,
@@ -536,11 +554,11 @@ module _ (old new : Values) (scene : Scene) (shows : IsSceneOf old scene) (facts
           named it = ap (λ (c : Commanded). are_covering (covers_of c) key translation) (sym is.named) ∙ it
 
   drops_context : (device : ℕ) (later : List QueuedCommand) → FirstEffect old new (IodirInvalDdt (Some device)) → scene.waiting ≡ DropContext device ∷ later
-      → AreQueuedAs old.address old.space_of new.waiting later → HasFaithfulScene new
-  drops_context device later effect waiting queued =
-      let left = filter (λ d. not (device == d)) scene.contexts in
-      let next : Scene = record scene { waiting = later; contexts = left } in
-      let none = snapshot_none scene (DropContext device) later scene.fence_snapshot facts waiting (λ number same. cc) refl in (
+      → AreQueuedAs old.address old.space_of new.waiting later → AreBegunAnew left walks → HasSceneWith new left
+  drops_context device later effect waiting queued anew =
+      let others = filter (λ d. not (device == d)) scene.contexts in
+      let next : Scene = record scene { waiting = later; contexts = others } in
+      let none = snapshot_none scene (DropContext device) later scene.fence_snapshot facts.copies waiting (λ number same. cc) refl in (
         next,
         scene_from old new scene next effect.keeps shows refl (record {
           waiting = queued;
@@ -553,9 +571,9 @@ module _ (old new : Values) (scene : Scene) (shows : IsSceneOf old scene) (facts
           leaving = λ d. goes_later old.fence_of d (old.attachment_of d) (DropContext device) later (subst (GoesInOrder old.fence_of d (old.attachment_of d)) waiting (shows.leaving d));
           traffic = shows.traffic ∙ sym effect.traffic;
         }),
-        transitions_keep_facts (FetchIodir device) scene next facts (
+        facts_kept (FetchIodir device) scene next walks left anew facts (
           later,
-          left,
+          others,
           waiting,
           (λ d there. let kept = contains_from_filter (λ e. not (device == e)) scene.contexts d there in (kept.0, not_true (device == d) kept.1)),
           refl,
@@ -564,8 +582,8 @@ module _ (old new : Values) (scene : Scene) (shows : IsSceneOf old scene) (facts
 
   -- a slot is opened, and its request is sent or lost
   opens : (device id : ℕ) (range : AtsRange) (extent : Extent) (later : List QueuedCommand) → FirstEffect old new (AtsInval id range) → scene.waiting ≡ Invalidate device extent ∷ later
-      → (id ≡ device) × (extent ≡ extent_of_range (range_of range)) → AreQueuedAs old.address old.space_of new.waiting later → HasFaithfulScene new
-  opens device id range extent later effect waiting is queued =
+      → (id ≡ device) × (extent ≡ extent_of_range (range_of range)) → AreQueuedAs old.address old.space_of new.waiting later → left ≡ walks → HasSceneWith new left
+  opens device id range extent later effect waiting is queued same =
       let opened : OpensSlot device extent old.traffic new.traffic =
       subst (λ e. OpensSlot device e old.traffic new.traffic) (sym is.1) (subst (λ d. OpensSlot d (extent_of_range (range_of range)) old.traffic new.traffic) is.0 effect.traffic) in
       let serial : scene.last_serial ≡ old.traffic.last_serial = ap (λ (t : Traffic). t.last_serial) shows.traffic in
@@ -575,7 +593,7 @@ module _ (old new : Values) (scene : Scene) (shows : IsSceneOf old scene) (facts
         last_serial = scene.last_serial + 1;
         messages = new.traffic.messages;
       } in
-      let none = snapshot_none scene (Invalidate device extent) later scene.fence_snapshot facts waiting (λ number same. cc) refl in (
+      let none = snapshot_none scene (Invalidate device extent) later scene.fence_snapshot facts.copies waiting (λ number same. cc) refl in (
         next,
         scene_from old new scene next effect.keeps shows refl (record {
           waiting = queued;
@@ -591,7 +609,7 @@ module _ (old new : Values) (scene : Scene) (shows : IsSceneOf old scene) (facts
               (ap (λ (t : Traffic). t.slots ++ invalidation_by (t.last_serial + 1) device ∷ []) shows.traffic ∙ sym opened.slots)
               (ap (λ (t : Traffic). t.last_serial + 1) shows.traffic ∙ sym opened.last_serial);
         }),
-        transitions_keep_facts (FetchAtsInval device extent) scene next facts (
+        facts_kept (FetchAtsInval device extent) scene next walks left same facts (
           later,
           new.traffic.messages,
           waiting,
@@ -603,8 +621,9 @@ module _ (old new : Values) (scene : Scene) (shows : IsSceneOf old scene) (facts
 
   -- a fence that counted before is done, or it counts now
   completes : (number : ℕ) (later : List QueuedCommand) (store : Option FenceStore) (wsi pr pw : Bool) → FirstEffect old new (IofenceC store wsi pr pw)
-      → scene.waiting ≡ Fence number ∷ later → IofenceC store wsi pr pw ≡ fence old.address number → AreQueuedAs old.address old.space_of new.waiting later → HasFaithfulScene new
-  completes number later store wsi pr pw effect waiting is queued = by scene.fence_snapshot refl
+      → scene.waiting ≡ Fence number ∷ later → IofenceC store wsi pr pw ≡ fence old.address number → AreQueuedAs old.address old.space_of new.waiting later → left ≡ walks
+      → HasSceneWith new left
+  completes number later store wsi pr pw effect waiting is queued same = by scene.fence_snapshot refl
     where
       next : Scene
       next = record scene { waiting = later; completed = number; fence_snapshot = None }
@@ -628,49 +647,50 @@ module _ (old new : Values) (scene : Scene) (shows : IsSceneOf old scene) (facts
         traffic = shows.traffic ∙ sym effect.traffic;
       })
 
-      by : (fence_snapshot : Option FenceSnapshot) → scene.fence_snapshot ≡ fence_snapshot → HasFaithfulScene new
+      by : (fence_snapshot : Option FenceSnapshot) → scene.fence_snapshot ≡ fence_snapshot → HasSceneWith new left
       by None none =
           let snapshot_taken : Scene = record scene { fence_snapshot = Some (record { fence = number; accepted = scene.accepted }) } in
           let counted : old.fence_snapshot ≡ None = counted_none old.fence_snapshot scene.fence_snapshot shows.fence_snapshot none in
           let before : accepted_before old.fence_snapshot old.so_far ≡ scene.accepted = ap (λ s. accepted_before s old.so_far) counted ∙ sym shows.accepted in
-          let snapshot_facts = transitions_keep_facts (TakeSnapshot number) scene snapshot_taken facts
+          let snapshot_facts = facts_kept (TakeSnapshot number) scene snapshot_taken walks walks refl facts
           (later, waiting, (λ slot there. none_there scene.slots slot none_open there), shows.stopped ∙ effect.going, refl) in (
             next,
             shows_next,
-            transitions_keep_facts (CompleteFence number) snapshot_taken next snapshot_facts
+            facts_kept (CompleteFence number) snapshot_taken next walks left same snapshot_facts
                 (later, scene.accepted, waiting, refl, subst (λ n. NoneBefore n scene.in_flight) before none_before, refl),
           )
       by (Some taken) at =
-          let head = (facts.order.snapshot_taken taken.fence taken.accepted at).head in
+          let head = (facts.copies.order.snapshot_taken taken.fence taken.accepted at).head in
           let own : taken.fence ≡ number = fence_same taken.fence number head.0 later (sym head.1 ∙ waiting) in
           let before : accepted_before old.fence_snapshot old.so_far ≡ taken.accepted = counted_as old.fence_snapshot old.so_far taken (subst (IsSnapshotOf old.fence_snapshot) at shows.fence_snapshot) in (
             next,
             shows_next,
-            transitions_keep_facts (CompleteFence number) scene next facts
+            facts_kept (CompleteFence number) scene next walks left same facts
                 (later, taken.accepted, waiting, at ∙ ap (λ n. Some (record { fence = n; accepted = taken.accepted })) own, subst (λ n. NoneBefore n scene.in_flight) before none_before, refl),
           )
 
   -- by what stands first in the scene's queue
   done_first : (command : Commanded) → FirstEffect old new command → (queued : QueuedCommand) (later : List QueuedCommand) → scene.waiting ≡ queued ∷ later
-      → IsQueuedAs old.address old.space_of (Command command) queued → AreQueuedAs old.address old.space_of new.waiting later → HasFaithfulScene new
-  done_first (IotinvalVma gscid pscid page) effect (DropTranslations device extent) later waiting is rest =
-      drops_translations device extent later (IotinvalVma gscid pscid page) (record { keeps = effect.keeps; so_far = effect.so_far; in_flight = effect.in_flight; completed = effect.completed; contexts = effect.contexts; translations = effect.translations; fence_snapshot = effect.fence_snapshot; traffic = effect.traffic }) waiting is rest
-  done_first (IotinvalGvma gscid page) effect (DropTranslations device extent) later waiting is rest =
-      drops_translations device extent later (IotinvalGvma gscid page) (record { keeps = effect.keeps; so_far = effect.so_far; in_flight = effect.in_flight; completed = effect.completed; contexts = effect.contexts; translations = effect.translations; fence_snapshot = effect.fence_snapshot; traffic = effect.traffic }) waiting is rest
-  done_first (IofenceC store wsi pr pw) effect (Fence number) later waiting is rest = completes number later store wsi pr pw effect waiting is rest
-  done_first (IodirInvalDdt (Some id)) effect (DropContext device) later waiting is rest = by is effect
+      → IsQueuedAs old.address old.space_of (Command command) queued → AreQueuedAs old.address old.space_of new.waiting later → WalksAfter command walks left → HasSceneWith new left
+  done_first (IotinvalVma gscid pscid page) effect (DropTranslations device extent) later waiting is rest after =
+      drops_translations device extent later (IotinvalVma gscid pscid page) (record { keeps = effect.keeps; so_far = effect.so_far; in_flight = effect.in_flight; completed = effect.completed; contexts = effect.contexts; translations = effect.translations; fence_snapshot = effect.fence_snapshot; traffic = effect.traffic }) waiting is rest after
+  done_first (IotinvalGvma gscid page) effect (DropTranslations device extent) later waiting is rest after =
+      drops_translations device extent later (IotinvalGvma gscid page) (record { keeps = effect.keeps; so_far = effect.so_far; in_flight = effect.in_flight; completed = effect.completed; contexts = effect.contexts; translations = effect.translations; fence_snapshot = effect.fence_snapshot; traffic = effect.traffic }) waiting is rest after
+  done_first (IofenceC store wsi pr pw) effect (Fence number) later waiting is rest after = completes number later store wsi pr pw effect waiting is rest after
+  done_first (IodirInvalDdt (Some id)) effect (DropContext device) later waiting is rest after = by is effect
     where
-      by : id ≡ device → FirstEffect old new (IodirInvalDdt (Some id)) → HasFaithfulScene new
-      by same it = drops_context device later (subst (λ d. FirstEffect old new (IodirInvalDdt (Some d))) same it) waiting rest
-  done_first (AtsInval id range) effect (Invalidate device extent) later waiting is rest = opens device id range extent later effect waiting is rest
-  done_first command effect queued later waiting is rest = absurd is
+      by : id ≡ device → FirstEffect old new (IodirInvalDdt (Some id)) → HasSceneWith new left
+      by same it = drops_context device later (subst (λ d. FirstEffect old new (IodirInvalDdt (Some d))) same it) waiting rest after
+  done_first (AtsInval id range) effect (Invalidate device extent) later waiting is rest after = opens device id range extent later effect waiting is rest after
+  done_first command effect queued later waiting is rest after = absurd is
 
 -- A COMMAND IS DONE: it stood first in the scene's queue
-pub fetch_scene : (old new : Values) (command : Commanded) → FirstEffect old new command → HasFaithfulScene old → HasFaithfulScene new
-fetch_scene old new command effect (scene, shows, facts) =
+pub fetch_scene : (old new : Values) (command : Commanded) → FirstEffect old new command → (walks left : List Walk) → WalksAfter command walks left
+    → HasSceneWith old walks → HasSceneWith new left
+fetch_scene old new command effect walks left after (scene, shows, facts) =
     let first = queued_first old.address old.space_of (Command command) new.waiting scene.waiting
     (subst (λ l. AreQueuedAs old.address old.space_of l scene.waiting) effect.first shows.waiting) in
-    done_first old new scene shows facts command effect first.0 first.1 first.2 first.3 first.4
+    done_first old new scene shows walks facts left command effect first.0 first.1 first.2 first.3 first.4 after
 
 -- A FENCE WAITS: it counts, if it didn't before
 pub record CountsAtHead (old new : Values) : Type 0 where
@@ -694,8 +714,8 @@ fence_queued address number spaces (DropTranslations d extent) is = absurd is
 fence_queued address number spaces (DropContext d) is = absurd is
 fence_queued address number spaces (Invalidate d extent) is = absurd is
 
-pub count_scene : (old new : Values) → CountsAtHead old new → HasFaithfulScene old → HasFaithfulScene new
-count_scene old new counts (scene, shows, facts) = by scene.fence_snapshot refl
+pub count_scene : (old new : Values) → CountsAtHead old new → (walks : List Walk) → HasSceneWith old walks → HasSceneWith new walks
+count_scene old new counts walks (scene, shows, facts) = by scene.fence_snapshot refl
   where
     first : (command : QueuedCommand) × (later : List QueuedCommand) × (scene.waiting ≡ command ∷ later)
         × IsQueuedAs old.address old.space_of (Command (fence old.address counts.head.0)) command × AreQueuedAs old.address old.space_of counts.head.1 later
@@ -705,7 +725,7 @@ count_scene old new counts (scene, shows, facts) = by scene.fence_snapshot refl
     own : (n : ℕ) × (first.0 ≡ Fence n)
     own = fence_queued old.address counts.head.0 old.space_of first.0 first.3
 
-    by : (fence_snapshot : Option FenceSnapshot) → scene.fence_snapshot ≡ fence_snapshot → HasFaithfulScene new
+    by : (fence_snapshot : Option FenceSnapshot) → scene.fence_snapshot ≡ fence_snapshot → HasSceneWith new walks
     by None none =
         let next : Scene = record scene { fence_snapshot = Some (record { fence = own.0; accepted = scene.accepted }) } in
         let counted : old.fence_snapshot ≡ None = counted_none old.fence_snapshot scene.fence_snapshot shows.fence_snapshot none in (
@@ -721,7 +741,7 @@ count_scene old new counts (scene, shows, facts) = by scene.fence_snapshot refl
             leaving = shows.leaving;
             traffic = shows.traffic ∙ sym counts.traffic;
           }),
-          transitions_keep_facts (TakeSnapshot own.0) scene next facts
+          facts_kept (TakeSnapshot own.0) scene next walks walks refl facts
               (first.1, first.2 ∙ ap (λ c. c ∷ first.1) own.1, (λ slot there. none_there scene.slots slot (slots_as old scene shows counts.closed) there), shows.stopped ∙ counts.going, refl),
         )
     by (Some taken) at =

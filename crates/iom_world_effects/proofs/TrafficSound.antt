@@ -1,5 +1,5 @@
 -- What stays true of a world where only messages, the devices' caches and the open requests to invalidate change.
-use Rattle.std.proofs.Common.{◌≡◌, ◌^◌, ◌<◌, ◌≤◌, ◌⊎◌, ◌∙◌, ℕ, is_some, List, length, Contains, Some, refl, sym, ap, subst}
+use Rattle.std.proofs.Common.{◌≡◌, ◌^◌, ◌<◌, ◌≤◌, ◌⊎◌, ◌∙◌, ℕ, is_some, List, length, Contains, Some, refl, sym, ap, subst, []}
 use Rattle.std.specs.Option.{option_map}
 use Rattle.std.specs.List.{All}
 use Rattle.std.proofs.Math.Logic.{∥∥₁_map}
@@ -118,4 +118,4 @@ carried_sound old fabric events invariants askers may =
       trusted = invariants.known.trusted;
       askers = askers;
     })
-    invariants.epochs (carry_scene (values_of old) (values_of new) (messages_in fabric) (rest_kept old new keeps) refl may)
+    invariants.epochs (carry_scene (values_of old) (values_of new) (messages_in fabric) (rest_kept old new keeps) refl may [])

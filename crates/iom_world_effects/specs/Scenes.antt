@@ -1,6 +1,6 @@
 -- What lies between the grants and memory, as values that are read off the parts of a world; and the scene of which the facts on copies speak.
 -- For the facts that a world carries alone; no public contract cites these.
-use Rattle.std.specs.Prelude.{◌≡◌, ℕ, ◌-◌, Bool, true, List, Contains, Option, None, Some, ⊤}
+use Rattle.std.specs.Prelude.{◌≡◌, ℕ, ◌-◌, Bool, true, List, [], Contains, Option, None, Some, ⊤}
 use Rattle.iom_command_queue.specs.declared.entry.QueueEntry.{QueueEntry}
 use Rattle.iom_coherence.specs.Faithful.{IsFaithful}
 use Rattle.iom_coherence.specs.Queue.{QueuedCommand}
@@ -10,6 +10,8 @@ use Rattle.iom_ledger.specs.Shown.{Agrees}
 use Rattle.iom_machine.specs.declared.state.Attachment.{Attachment}
 use Rattle.iom_machine.specs.declared.state.Attachment.TheVariants.{Detached, Attached, Quarantined, Leaving}
 use Rattle.iom_base.specs.declared.device_kind.DeviceKind.{DeviceKind}
+use Rattle.iom_walk_coherence.specs.Walks.{Walk}
+use Rattle.iom_walk_coherence.specs.Faithful.{AreFaithfulWalks}
 use Rattle.iom_tlb.specs.declared.space.Space.{Space}
 use Rattle.iom_tlb.specs.declared.trans_cache.Translation.{Translation}
 use Rattle.iom_tlb.specs.Content.{Key, Translations}
@@ -94,6 +96,15 @@ pub record IsSceneOf (values : Values) (scene : Scene) : Type 0 where
   pub traffic : under_way scene ≡ values.traffic
   pub stopped : scene.is_stopped ≡ values.is_stopped
 
--- there is such a scene, of which the facts on copies hold
+-- the facts on copies hold of the scene, and each of these walks stands where it may
+pub record FactsHold (scene : Scene) (walks : List Walk) : Type 0 where
+  pub copies : IsFaithful scene
+  pub standing : AreFaithfulWalks scene walks
+
+-- there is such a scene, of which the facts hold, with these walks under way
+abbrev pub HasSceneWith : Values → List Walk → Type 0
+HasSceneWith values walks = (scene : Scene) × IsSceneOf values scene × FactsHold scene walks
+
+-- the same, where none is under way: each walk makes all its loads in one event
 abbrev pub HasFaithfulScene : Values → Type 0
-HasFaithfulScene values = (scene : Scene) × IsSceneOf values scene × IsFaithful scene
+HasFaithfulScene values = HasSceneWith values []

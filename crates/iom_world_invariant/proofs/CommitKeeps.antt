@@ -1,5 +1,5 @@
 -- What stays true of a world when an access in flight is made: its frame isn't reserved.
-use Rattle.std.proofs.Common.{◌≡◌, ◌<◌, ◌≤◌, ◌∙◌, IfSome, ℕ, false, is_some, List, length, Option, Some, None, slice_get, sym, ap, subst}
+use Rattle.std.proofs.Common.{◌≡◌, ◌<◌, ◌≤◌, ◌∙◌, IfSome, ℕ, false, is_some, List, length, Option, Some, None, slice_get, sym, ap, subst, []}
 use Rattle.std.proofs.lemmas.List.{length-set}
 use Rattle.iom_base.specs.declared.access.AcceptedAccess.{AcceptedAccess}
 use Rattle.iom_base.specs.declared.access.AccessKind.{AccessKind}
@@ -84,7 +84,7 @@ keeps_made old new events id made invariants own unchanged leaves call so_far am
     sound_from old new events invariants own leaves unchanged (subst (λ n. n ≤ events) (sym so_far) invariants.counted)
     (contexts_stay old new invariants.contexts contexts leaves.driver)
     (λ has. make_scene (values_of old) (values_of new) (grants_kept old new events invariants own leaves) (queue_kept old new events invariants own leaves (ap (λ parts. parts.fence_snapshot) call.rest))
-    so_far among (λ d there. ap (λ c. is_some (c d)) (sym contexts) ∙ there) (λ key translation at. ap (λ c. ioatc.content c key) (sym (ap (λ parts. parts.translations) call.rest)) ∙ at) has)
+    so_far among (λ d there. ap (λ c. is_some (c d)) (sym contexts) ∙ there) (λ key translation at. ap (λ c. ioatc.content c key) (sym (ap (λ parts. parts.translations) call.rest)) ∙ at) [] has)
 
 -- a commit keeps the facts, whatever is told of it
 pub keeps_oldest : (old new : Parts) (events id : ℕ) (made : Option MadeAt) → PartsInvariant old events → DriverInvariant old.driver → StaysReady old.driver

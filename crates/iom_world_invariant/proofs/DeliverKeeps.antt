@@ -156,7 +156,7 @@ module _ (old : Parts) (events place device epoch page frame : ℕ) (rights : Ri
       (ap (λ (es : ℕ → ℕ). record (traffic_of (with_cache old.devices device (Some after)) others (slots_of old.iommu)) { epoch_of = es })
       (same_function (epoch_in (with_cache old.devices device (Some after))) (epoch_in old.devices) same_epoch))
       (there_at old.fabric place (record { device = device; message = sent.Answer epoch page (reply.Page frame rights) }) (Answer epoch copy) at (contains_head (Answer epoch copy) []))
-      (current ∙ sym (ap epoch_of has)) one_more (λ x there. left_among old.fabric place x there))
+      (current ∙ sym (ap epoch_of has)) one_more (λ x there. left_among old.fabric place x there) [])
 
 -- where the cache stays as it is, the message is merely gone
 unchanged : (old later : Parts) (events place device : ℕ) (after : Option Cache) → PartsInvariant old events → cache_of old.devices device ≡ after
@@ -278,7 +278,8 @@ module _ (old : Parts) (events place device serial : ℕ) (range : Range) (cache
       (λ x there. elim (sent_cases gone device (sent.InvDone serial) x there) [
         | inl new ↦ inl (the_one (InvalidateCompletion (invalidation_by serial device)) x new)
         | inr before ↦ inr (left_among old.fabric place x before)
-      ]))
+      ])
+      [])
 
 -- A REQUEST TO INVALIDATE ARRIVES
 pub keeps_requested : (old new : Parts) (events place device serial : ℕ) (range : Range) (outcome : Outcome) → PartsInvariant old events → epoch_in old.devices device < events
@@ -353,7 +354,7 @@ heard_sound old events place device serial invariants at =
     (rest_kept old new keeps) refl
     (there_at old.fabric place (record { device = device; message = sent.InvDone serial }) (InvalidateCompletion (invalidation_by serial device)) at
     (contains_head (InvalidateCompletion (invalidation_by serial device)) []))
-    (λ x there. still_open slots serial device x there) (λ x there. closed_or slots serial device x there) (λ x there. left_among old.fabric place x there))
+    (λ x there. still_open slots serial device x there) (λ x there. closed_or slots serial device x there) (λ x there. left_among old.fabric place x there) [])
 
 pub keeps_heard : (old new : Parts) (events place device serial : ℕ) (outcome : Outcome) → PartsInvariant old events
     → slice_get old.fabric place ≡ Some (record { device = device; message = sent.InvDone serial })

@@ -156,7 +156,8 @@ module _ (old new : Parts) (events id ticket : ℕ) (invariants : PartsInvariant
       (λ d. ap (λ (s : DriverState). shown_attachment (attachment_by_id s.devices d)) queues.driver ∙ shown_set old.driver.devices id (Leaving ticket queues.stage) plugged d
       ∙ ap (λ t. if id == d then shown.Leaving t queues.stage.mode queues.stage.ats else shown_attachment (attachment_by_id old.driver.devices d)) queues.next)
       (ungranted old.driver (registers_of old.iommu) id admitted)
-      (λ h agrees. subst (λ (s : DriverState). Agrees s.ledger h) (sym queues.driver) agrees)))
+      (λ h agrees. subst (λ (s : DriverState). Agrees s.ledger h) (sym queues.driver) agrees)
+      []))
 
 -- what the driver does keeps the facts, where the devices are the same
 keeps_called : (old new : Parts) (events id : ℕ) → PartsInvariant old events → DriverInvariant old.driver → IsReady new.driver new.memory (registers_of new.iommu)

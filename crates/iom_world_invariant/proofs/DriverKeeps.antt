@@ -242,7 +242,7 @@ module _ (old new : Parts) (events id : ℕ) (invariants : PartsInvariant old ev
       (same_epochs old new events invariants devices)
       (subst (λ (d : DriverState). d.given < 2 ^ 32) (sym takes.driver) invariants.small)
       contexts_attached
-      (∥∥₁_map invariants.copies (attach_scene (values_of old) (values_of new) id mode ats attaches_detached))
+      (∥∥₁_map invariants.copies (attach_scene (values_of old) (values_of new) id mode ats attaches_detached []))
 
 pub keeps_attached : (old new : Parts) (events id : ℕ) (mode : Mode) (ats : Bool) (reply : Outcome) → PartsInvariant old events → DriverInvariant old.driver → IsReady new.driver new.memory (registers_of new.iommu)
     → AttachesDevice old id mode ats reply new → PartsInvariant new events
@@ -316,7 +316,7 @@ module _ (old new : Parts) (events id page frame : ℕ) (rights : GrantRights) (
       (subst (λ n. n < 2 ^ 32) (sym (ap (λ (d : DriverState). d.given) takes.driver)) invariants.small)
       (λ other context cached.
       ap (λ (s : DriverState). option_map context_for (owned_stages_of s.devices other)) takes.driver ∙ invariants.contexts other context (ap (λ i. contexts_of i other) (sym iommu) ∙ cached))
-      (∥∥₁_map invariants.copies (grant_scene (values_of old) (values_of new) id page frame (rights_of rights) grants_one))
+      (∥∥₁_map invariants.copies (grant_scene (values_of old) (values_of new) id page frame (rights_of rights) grants_one []))
 
 -- nothing changes but what room the driver's ledger has
 pub roomy_sound : (old new : Parts) (events : ℕ) → PartsInvariant old events → IsReady new.driver new.memory (registers_of new.iommu) → IsSame old.driver new.driver
@@ -346,7 +346,7 @@ roomy_sound old new events invariants ready same memory iommu devices fabric =
     (subst (λ n. n < 2 ^ 32) (sym (ap (λ (d : DriverState). d.given) same.rest)) invariants.small)
     (λ other context cached.
     ap (λ (s : DriverState). option_map context_for (owned_stages_of s.devices other)) same.rest ∙ invariants.contexts other context (ap (λ i. contexts_of i other) (sym iommu) ∙ cached))
-    (∥∥₁_map invariants.copies (same_scene (values_of old) (values_of new) alike))
+    (∥∥₁_map invariants.copies (same_scene (values_of old) (values_of new) alike []))
 
 pub keeps_granted : (old new : Parts) (events id page frame : ℕ) (rights : GrantRights) (reply : Outcome) → PartsInvariant old events → DriverInvariant old.driver
     → IsReady new.driver new.memory (registers_of new.iommu) → GrantsPage old id page frame rights reply new → PartsInvariant new events

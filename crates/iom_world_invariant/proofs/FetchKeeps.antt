@@ -30,7 +30,7 @@ use Rattle.iom_inflight.specs.Flights.{Flights, are_drained}
 use Rattle.iom_iommu.specs.declared.fetched.Fetched.{Fetched}
 use Rattle.iom_iommu.specs.declared.fetched.Fetched.TheVariants.{Did, Waiting, Empty, Stopped}
 use Rattle.iom_iommu.specs.OwnIommu.{Iommu}
-use Rattle.iom_iommu.specs.Fetches.{FetchesCommand, counted_in, with_store, IsStorable, head_entry}
+use Rattle.iom_iommu.specs.Fetches.{counted_in, with_store, IsStorable, head_entry}
 use Rattle.iom_iommu.specs.Effects.{FetchesByAnswer, DropsContexts, DropsTranslations, waits_for_accesses, waits_for_slots, is_held_back, slots_by, asks_for_interrupt, after_none, after_nothing, fence_snapshot_at, waits_at, WaitsAt, store_of, with_done, IsStoredIn, IsOffRing, StopsAtEntry, StopsFetching}
 use Rattle.iom_iommu.proofs.ByAnswer.{by_answer}
 use Rattle.iom_iommu.specs.Parts.{registers_of, contexts_of, translations_of, flights_of, fence_snapshot_of, slots_of}
@@ -44,7 +44,6 @@ use Rattle.iom_world_effects.specs.Devices.{shown_attachment}
 use Rattle.iom_world_effects.specs.Effect.{FetchesNext}
 use Rattle.iom_world_effects.specs.Parts.{Parts}
 use Rattle.iom_world_effects.specs.Queued.{IsQueuedAs, AreQueuedAs, completed_in}
-use Rattle.iom_tlb.specs.declared.trans_cache.Translation.{Translation}
 use Rattle.iom_tlb.proofs.ContentLemmas.{found_before_drop}
 use Rattle.iom_tlb.specs.Content.{Translations}
 use Rattle.iom_tlb.specs.Covers.{are_covering}
@@ -57,7 +56,7 @@ use Rattle.iom_world_effects.proofs.DriverLemmas.{DriverInvariant}
 use Rattle.iom_world_effects.proofs.PartsLemmas.{parts_are, StaysReady}
 use Rattle.iom_world_effects.proofs.QueuedLemmas.{queued_first}
 use Rattle.iom_world_effects.proofs.RowLemmas.{drained_after}
-use Rattle.iom_world_effects.proofs.SceneSteps.{KeepsGrants, FirstEffect, CountsAtHead, done_after, CachedAfter, TranslationsAfter, TrafficAfter, DoneIfFence, ClosedIfFence, fetch_scene, count_scene, scene_uncounted}
+use Rattle.iom_world_effects.proofs.SceneSteps.{KeepsGrants, FirstEffect, CountsAtHead, done_after, CachedAfter, TranslationsAfter, TrafficAfter, DoneIfFence, ClosedIfFence, no_walks_after, fetch_scene, count_scene, scene_uncounted}
 use Rattle.std.proofs.lemmas.List.{map-append}
 use Rattle.iom_fabric.specs.declared.fabric.OnLink.{OnLink}
 use Rattle.iom_world_effects.specs.Messages.{range_of, with_fetched}
@@ -157,7 +156,7 @@ module _ (old : Parts) (events : ℕ) (invariants : PartsInvariant old events) w
       ours_queued place done (last_fence old.driver) (space_at old.driver.devices) entry first.0 first.1 first.3
       (subst (λ n. FencesRise n (first.0 ∷ first.1) (last_fence old.driver)) shows.completed
       (subst (λ n. FencesRise scene.completed (first.0 ∷ first.1) n) shows.last_fence
-      (subst (λ l. FencesRise scene.completed l scene.last_fence) first.2 facts.order.fences)))
+      (subst (λ l. FencesRise scene.completed l scene.last_fence) first.2 facts.copies.order.fences)))
 
   head_ours : (entry : QueueEntry) → head_entry old.memory (registers_of old.iommu) ≡ Some entry
       → is_ours (completion_address (length old.memory)) (completed_in old.memory) (last_fence old.driver) entry ≡ true
@@ -460,7 +459,7 @@ keeps_done old new events command invariants own unchanged below fetches driver 
       small = rw driver invariants.small;
       counted = subst (λ (f : Flights). f.so_far ≤ events) (sym left.flights) invariants.counted;
       contexts = λ id context at. rw driver (invariants.contexts id context (cached_before command (contexts_of old.iommu) (contexts_of new.iommu) left.contexts id context at));
-      copies = ∥∥₁_map invariants.copies (λ has. fetch_scene (values_of old) (values_of new) command effect has);
+      copies = ∥∥₁_map invariants.copies (fetch_scene (values_of old) (values_of new) command effect [] [] (no_walks_after command));
     }
 
 -- whether a fence waits for devices is no matter
@@ -548,7 +547,7 @@ module _ (old : Parts) (events : ℕ) (invariants : PartsInvariant old events) w
         serials = invariants.serials;
         epochs = invariants.epochs;
         contexts = invariants.contexts;
-        copies = ∥∥₁_map invariants.copies (count_scene (values_of old) (values_of counting) counts);
+        copies = ∥∥₁_map invariants.copies (count_scene (values_of old) (values_of counting) counts []);
       }
 
   -- whether it waits for slots, or for accesses

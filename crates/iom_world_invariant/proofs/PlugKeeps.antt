@@ -178,7 +178,7 @@ module _ (old new : Parts) (events id : ℕ) (what : NewDevice) (invariants : Pa
       (λ d. subst (λ (n : ℕ). n ≤ events) (sym (ap (λ (ds : List Device). epoch_in ds d) devices ∙ epoch_pushed old.devices id what d)) (invariants.epochs d))
       (subst (λ (d : DriverState). d.given < 2 ^ 32) (sym driver_now) invariants.small)
       (λ other context cached. ap (λ a. option_map context_for (owned_stages a)) (attachments_now other) ∙ invariants.contexts other context (sym (contexts_now other) ∙ cached))
-      (∥∥₁_map invariants.copies (plug_scene (values_of old) (values_of new) id (kind_of what) plugs_one))
+      (∥∥₁_map invariants.copies (plug_scene (values_of old) (values_of new) id (kind_of what) plugs_one []))
 
 pub keeps_plugged : (disks : List ℕ) (old new : Parts) (events id : ℕ) (what : NewDevice) (reply : Outcome) → PartsInvariant old events → IsReady new.driver new.memory (registers_of new.iommu)
     → PlugsIn disks old id what reply new → PartsInvariant new events

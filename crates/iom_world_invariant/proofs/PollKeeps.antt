@@ -1,5 +1,5 @@
 -- What stays true of a world at a poll: a device that left has no context cached any more, since its ticket's fence came after the command that drops it.
-use Rattle.std.proofs.Common.{◌≡◌, ◌+◌, ◌-◌, ◌^◌, ◌<◌, ◌≤◌, ◌==◌, ◌⊎◌, inl, inr, ◌∙◌, min, nat_le, nat_lt, is_some, ℕ, Bool, true, false, List, length, Option, Some, Result, Ok, Err, slice_get, refl, sym, ap, subst, arith, if◌then◌else◌}
+use Rattle.std.proofs.Common.{◌≡◌, ◌+◌, ◌-◌, ◌^◌, ◌<◌, ◌≤◌, ◌==◌, ◌⊎◌, inl, inr, ◌∙◌, min, nat_le, nat_lt, is_some, ℕ, Bool, true, false, List, length, Option, Some, Result, Ok, Err, slice_get, refl, sym, ap, subst, arith, if◌then◌else◌, []}
 use Rattle.std.specs.Option.{option_map, option_map_or}
 use Rattle.std.proofs.Math.Logic.{∥∥₁_map}
 use Rattle.std.proofs.Math.Nat.{min-le_right}
@@ -164,7 +164,7 @@ module _ (old new : Parts) (events : ℕ) (polled : Polled) (invariants : PartsI
   polled_sound =
       let given : new.driver.given ≡ old.driver.given = ap (λ (d : DriverState). d.given) confirms.driver in
       let small = invariants.small in
-      let copies = ∥∥₁_map invariants.copies (poll_scene (values_of old) (values_of new) polled.count rest confirms_some) in
+      let copies = ∥∥₁_map invariants.copies (poll_scene (values_of old) (values_of new) polled.count rest confirms_some []) in
       sound_from old new events invariants leaves (same_iommu old new iommu) (ap (λ (d : DriverState). d.started) confirms.driver) ready
       (same_known old new devices fabric (ap (λ (d : DriverState). known_ids d.devices) confirms.driver ∙ ids_confirmed (done_after old.driver polled) old.driver.devices)
       (λ d. ap (λ (s : DriverState). has_trusted_cache s.devices d) confirms.driver ∙ trusted_confirmed (done_after old.driver polled) old.driver.devices d)

@@ -1,5 +1,5 @@
 -- What stays true of a world when the processor writes: it does so into a frame that is nobody's.
-use Rattle.std.proofs.Common.{◌≡◌, ◌/◌, ◌%◌, ◌∙◌, ℕ, List, length, Some, None, slice_get, slice_set, refl, sym, ap, subst}
+use Rattle.std.proofs.Common.{◌≡◌, ◌/◌, ◌%◌, ◌∙◌, ℕ, List, length, Some, None, slice_get, slice_set, refl, sym, ap, subst, []}
 use Rattle.iom_base.specs.declared.owner.Owner.{Owner}
 use Rattle.std.proofs.lemmas.List.{length-set}
 use Rattle.iom_base.specs.Bytes.{with_bytes}
@@ -55,7 +55,7 @@ keeps_stored old frame bytes events invariants own unchanged free =
     } in
     sound_from old new events invariants own leaves unchanged invariants.counted invariants.contexts
     (λ has. make_scene (values_of old) (values_of new) (grants_kept old new events invariants own leaves) (queue_kept old new events invariants own leaves refl)
-    refl (λ x there. there) (λ d there. there) (λ key translation at. at) has)
+    refl (λ x there. there) (λ d there. there) (λ key translation at. at) [] has)
 
 keeps_if_any : (old : Parts) (events address : ℕ) (bytes : List ℕ) (reply : Outcome) (memory : List (List ℕ)) → PartsInvariant old events → DriverInvariant old.driver → StaysReady old.driver
     → StoresIfAny old address bytes reply memory → PartsInvariant (record old { memory = memory }) events

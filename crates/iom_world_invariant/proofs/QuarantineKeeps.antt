@@ -128,7 +128,8 @@ module _ (old new : Parts) (events id ticket : ℕ) (invariants : PartsInvariant
       (ap shown_attachment was_attached)
       (λ d. ap (λ (s : DriverState). shown_attachment (attachment_by_id s.devices d)) queues.driver ∙ shown_set old.driver.devices id (Quarantined ticket queues.stage) plugged d
       ∙ ap (λ t. if id == d then shown.Quarantined t queues.stage.mode queues.stage.ats else shown_attachment (attachment_by_id old.driver.devices d)) queues.next)
-      (subst (λ t. (h : History) → Agrees old.driver.ledger h → confirms h t ≡ false → Agrees new.driver.ledger (AllReleased id t ∷ h)) queues.next queues.agrees)))
+      (subst (λ t. (h : History) → Agrees old.driver.ledger h → confirms h t ≡ false → Agrees new.driver.ledger (AllReleased id t ∷ h)) queues.next queues.agrees)
+      []))
 
 pub keeps_quarantined : (old new : Parts) (events id : ℕ) (reply : Outcome) → PartsInvariant old events → DriverInvariant old.driver → IsReady new.driver new.memory (registers_of new.iommu)
     → QuarantinesDevice old id reply new → PartsInvariant new events

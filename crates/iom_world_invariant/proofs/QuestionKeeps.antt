@@ -81,7 +81,7 @@ module _ (laws : ServiceLaws) (old new : Parts) (events device page : ℕ) (inva
       } in
       sound_from old after events invariants own leaves stays_ready (subst (λ (f : Flights). f.so_far ≤ events) (sym flights) invariants.counted)
       (contexts_kept old after device invariants.contexts keeps refl)
-      (settled_scene old after device (grants_kept old after events invariants own leaves) (queue_kept old after events invariants own leaves fence_snapshot) flights keeps change)
+      (settled_scene old after device (grants_kept old after events invariants own leaves) (queue_kept old after events invariants own leaves fence_snapshot) flights keeps change [])
 
   -- a page is told
   told_page : (frame : ℕ) (rights : Rights) → (call : TellsPage old.memory old.iommu device page frame rights new.iommu)
@@ -129,7 +129,7 @@ module _ (laws : ServiceLaws) (old new : Parts) (events device page : ℕ) (inva
           let leaves : LeavesReport old after = record_leaves old after events fields put invariants report_ready refl refl refl (ap (λ parts. parts.frames) call.rest) (ap (λ parts. parts.slots) call.rest) (ap (λ parts. parts.flights) call.rest) recorded in
           report_sound old after events invariants own leaves (subst (λ (f : Flights). f.so_far ≤ events) (sym (ap (λ parts. parts.flights) call.rest)) invariants.counted)
           (contexts_kept old after device invariants.contexts keeps refl)
-          (settled_scene old after device (report_grants old after events invariants own leaves) (report_queue old after events invariants own leaves (ap (λ parts. parts.fence_snapshot) call.rest)) (ap (λ parts. parts.flights) call.rest) keeps change)
+          (settled_scene old after device (report_grants old after events invariants own leaves) (report_queue old after events invariants own leaves (ap (λ parts. parts.fence_snapshot) call.rest)) (ap (λ parts. parts.flights) call.rest) keeps change [])
 
   -- the answer is sent
   module _ (place epoch : ℕ) (at : slice_get old.fabric place ≡ Some (record { device = device; message = sent.Ask epoch page })) where

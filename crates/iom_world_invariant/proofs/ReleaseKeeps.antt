@@ -187,7 +187,8 @@ module _ (old new : Parts) (events id page ticket : ℕ) (invariants : PartsInva
       (release_scene (values_of old) (values_of new) id page queues.stage.mode queues.stage.ats commands queues_ticket
       (ap shown_attachment (attached_is (attachment_by_id old.driver.devices id) queues.stage queues.attached))
       (λ d. ap (λ (s : DriverState). shown_attachment (attachment_by_id s.devices d)) queues.driver)
-      (subst (λ t. (h : History) → Agrees old.driver.ledger h → confirms h t ≡ false → Agrees new.driver.ledger (Released id page t ∷ h)) queues.next queues.agrees)))
+      (subst (λ t. (h : History) → Agrees old.driver.ledger h → confirms h t ≡ false → Agrees new.driver.ledger (Released id page t ∷ h)) queues.next queues.agrees)
+      []))
 
 pub keeps_released : (old new : Parts) (events id page : ℕ) (reply : Outcome) → PartsInvariant old events → DriverInvariant old.driver → IsReady new.driver new.memory (registers_of new.iommu)
     → ReleasesPage old id page reply new → PartsInvariant new events

@@ -108,7 +108,7 @@ keeps_taken old new events reply invariants own ready takes =
     (ap (λ (f : Flights). f.so_far) writes.flights)
     (subst (λ (f : Flights). AreAmong (accesses_of f.rows) (accesses_of (flights_of old.iommu).rows)) (sym writes.flights) (λ x there. there))
     (λ d is. ap (λ o. is_some o) (sym (writes.contexts d)) ∙ is)
-    (λ key translation at. sym (ap (λ (c : Translations). c key) writes.translations) ∙ at) has)
+    (λ key translation at. sym (ap (λ (c : Translations). c key) writes.translations) ∙ at) [] has)
 
 pub taken_waiting : (old new : Parts) (events : ℕ) (reply : Outcome) → PartsInvariant old events → DriverInvariant old.driver → TakesReport old reply new → waiting_in new ≡ waiting_in old
 taken_waiting old new events reply invariants own takes =

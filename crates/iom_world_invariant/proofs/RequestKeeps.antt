@@ -1,5 +1,5 @@
 -- What stays true of a world when a device asks for an access: what is translated is held, and so no copy outlives it.
-use Rattle.std.proofs.Common.{◌≡◌, ◌+◌, ◌/◌, ◌^◌, ◌<◌, ◌≤◌, ◌⊎◌, ◌∙◌, inl, inr, ℕ, Bool, true, is_some, length, Option, Some, None, option_map, Result, Ok, Err, slice_get, refl, sym, ap, subst, arith}
+use Rattle.std.proofs.Common.{◌≡◌, ◌+◌, ◌/◌, ◌^◌, ◌<◌, ◌≤◌, ◌⊎◌, ◌∙◌, inl, inr, ℕ, Bool, true, is_some, length, Option, Some, None, option_map, Result, Ok, Err, slice_get, refl, sym, ap, subst, arith, List, []}
 use Rattle.iom_base.specs.declared.access.Access.{Access}
 use Rattle.iom_base.specs.declared.access.AccessKind.{AccessKind}
 use Rattle.iom_base.specs.declared.cause.Cause.{Cause}
@@ -32,7 +32,8 @@ use Rattle.iom_world_effects.specs.Devices.{shown_attachment}
 use Rattle.iom_world_effects.specs.Parts.{Parts}
 use Rattle.iom_world_effects.specs.Read.{space_in, values_of, accesses_of}
 use Rattle.iom_world_effects.specs.Requests.{AsksAccess}
-use Rattle.iom_world_effects.specs.Scenes.{Values, copy_of, HasFaithfulScene}
+use Rattle.iom_walk_coherence.specs.Walks.{Walk}
+use Rattle.iom_world_effects.specs.Scenes.{Values, copy_of, HasSceneWith}
 use Rattle.iom_world_effects.specs.Invariant.{PartsInvariant, row_ids}
 use Rattle.iom_world_invariant.proofs.ContextKeeps.{KeepsAttached, keeps_attached, cached_or, contexts_kept}
 use Rattle.iom_world_effects.proofs.DriverLemmas.{DriverInvariant}
@@ -56,13 +57,13 @@ queue_same values cached translations = record { waiting = refl; completed = ref
 -- a scene of a world stays one where a request kept a context
 kept_scene : (values : Values) (cached : ℕ → Bool) (id : ℕ) → (((d : ℕ) → cached d ≡ true → values.is_cached d ≡ true)
     ⊎ ((mode : Mode) × (ats : Bool) × (values.attachment_of id ≡ shown.Attached mode ats) × ((d : ℕ) → cached d ≡ true → (values.is_cached d ≡ true) ⊎ (d ≡ id))))
-    → HasFaithfulScene values → HasFaithfulScene (cached_so values cached values.translations)
-kept_scene values cached id (inl before) has =
+    → (walks : List Walk) → HasSceneWith values walks → HasSceneWith (cached_so values cached values.translations) walks
+kept_scene values cached id (inl before) walks has =
     make_scene values (cached_so values cached values.translations) (grants_same values cached values.translations) (queue_same values cached values.translations)
-    refl (λ x there. there) before (λ key translation at. at) has
-kept_scene values cached id (inr (mode, ats, attached, either)) has =
+    refl (λ x there. there) before (λ key translation at. at) walks has
+kept_scene values cached id (inr (mode, ats, attached, either)) walks has =
     keep_scene values (cached_so values cached values.translations) id mode ats (grants_same values cached values.translations) (queue_same values cached values.translations)
-    refl refl (λ key translation at. at) attached either has
+    refl refl (λ key translation at. at) attached either walks has
 
 -- and one where it kept a translation
 abbrev pub TranslationsChange : Values → ℕ → Translations → Type 0
@@ -71,13 +72,13 @@ TranslationsChange values id translations =
     ⊎ ((page : ℕ) × (space : Space) × (translation : Translation) × KeepsWalked values (record values { translations = translations }) id page space translation)
 
 translated_scene : (values : Values) (translations : Translations) (id : ℕ) → TranslationsChange values id translations
-    → HasFaithfulScene values → HasFaithfulScene (cached_so values values.is_cached translations)
-translated_scene values translations id (inl less) has =
+    → (walks : List Walk) → HasSceneWith values walks → HasSceneWith (cached_so values values.is_cached translations) walks
+translated_scene values translations id (inl less) walks has =
     make_scene values (cached_so values values.is_cached translations) (grants_same values values.is_cached translations) (queue_same values values.is_cached translations)
-    refl (λ x there. there) (λ d is. is) less has
-translated_scene values translations id (inr (page, space, translation, walks)) has =
+    refl (λ x there. there) (λ d is. is) less walks has
+translated_scene values translations id (inr (page, space, translation, walked)) walks has =
     walk_scene values (cached_so values values.is_cached translations) id page space translation (grants_same values values.is_cached translations)
-    (queue_same values values.is_cached translations) refl refl (λ d is. is) walks has
+    (queue_same values values.is_cached translations) refl refl (λ d is. is) walked walks has
 
 -- what a keep leaves: what was there, or the translation that is kept
 kept_or : (sure : Bool) (old new : Translations) (at : Key) (translation : Translation) → Keeps sure old at translation new
@@ -103,10 +104,10 @@ between_values old new = cached_so (values_of old) (λ d. is_some (contexts_of n
 
 -- by what is kept of contexts and of translations
 pub between_scene : (old new : Parts) (id : ℕ) → KeepsAttached (attachment_by_id old.driver.devices id) id (contexts_of old.iommu) (contexts_of new.iommu)
-    → TranslationsChange (values_of old) id (translations_of new.iommu) → HasFaithfulScene (values_of old) → HasFaithfulScene (between_values old new)
-between_scene old new id keeps change has =
-    kept_scene (cached_so (values_of old) (values_of old).is_cached (translations_of new.iommu)) (λ d. is_some (contexts_of new.iommu d)) id (by keeps)
-    (translated_scene (values_of old) (translations_of new.iommu) id change has)
+    → TranslationsChange (values_of old) id (translations_of new.iommu) → (walks : List Walk) → HasSceneWith (values_of old) walks → HasSceneWith (between_values old new) walks
+between_scene old new id keeps change walks has =
+    kept_scene (cached_so (values_of old) (values_of old).is_cached (translations_of new.iommu)) (λ d. is_some (contexts_of new.iommu d)) id (by keeps) walks
+    (translated_scene (values_of old) (translations_of new.iommu) id change walks has)
   where
     by : KeepsAttached (attachment_by_id old.driver.devices id) id (contexts_of old.iommu) (contexts_of new.iommu)
         → ((d : ℕ) → is_some (contexts_of new.iommu d) ≡ true → is_some (contexts_of old.iommu d) ≡ true)
@@ -183,13 +184,13 @@ served_from old id address kind cached translations answer own (inr finds) = (
 -- where nothing else changed but what is cached, and perhaps the fault queue, the facts on copies stay
 pub settled_scene : (old new : Parts) (id : ℕ) → KeepsGrants (values_of old) (values_of new) → KeepsQueue (values_of old) (values_of new) → flights_of new.iommu ≡ flights_of old.iommu
     → KeepsAttached (attachment_by_id old.driver.devices id) id (contexts_of old.iommu) (contexts_of new.iommu) → TranslationsChange (values_of old) id (translations_of new.iommu)
-    → HasFaithfulScene (values_of old) → HasFaithfulScene (values_of new)
-settled_scene old new id grants queue flights keeps change has =
+    → (walks : List Walk) → HasSceneWith (values_of old) walks → HasSceneWith (values_of new) walks
+settled_scene old new id grants queue flights keeps change walks has =
     let cached : ℕ → Bool = λ d. is_some (contexts_of new.iommu d) in
     make_scene (between_values old new) (values_of new) (grants_on (values_of old) (values_of new) cached (translations_of new.iommu) grants)
     (queue_on (values_of old) (values_of new) cached (translations_of new.iommu) queue) (ap (λ (f : Flights). f.so_far) flights)
     (subst (λ (f : Flights). AreAmong (accesses_of f.rows) (accesses_of (flights_of old.iommu).rows)) (sym flights) (λ x there. there))
-    (λ d there. there) (λ key translation at. at) (between_scene old new id keeps change has)
+    (λ d there. there) (λ key translation at. at) walks (between_scene old new id keeps change walks has)
 
 -- where a record is put into the fault queue, memory changes in its frame alone
 pub record_leaves : (old new : Parts) (events : ℕ) (fields : Fields) (answer : Put) → PartsInvariant old events → StaysReported old.driver → new.driver ≡ old.driver → new.devices ≡ old.devices
@@ -246,7 +247,7 @@ module _ (laws : ServiceLaws) (old new : Parts) (events id : ℕ) (access : Acce
       report_sound old new events invariants own leaves (subst (λ (f : Flights). f.so_far ≤ events) (sym (ap (λ parts. parts.flights) call.rest)) invariants.counted)
       (contexts_kept old new id invariants.contexts keeps driver)
       (settled_scene old new id (report_grants old new events invariants own leaves) (report_queue old new events invariants own leaves (ap (λ parts. parts.fence_snapshot) call.rest)) (ap (λ parts. parts.flights) call.rest) keeps
-      (inl (λ key translation at. sym (unchanged key) ∙ at)))
+      (inl (λ key translation at. sym (unchanged key) ∙ at)) [])
 
   keeps_fault : access.address < 2 ^ 64 → (cause : Cause) → RefusesRequest old.memory old.iommu id access cause new.memory new.iommu → PartsInvariant new events
   keeps_fault fits cause call =
@@ -272,7 +273,7 @@ module _ (laws : ServiceLaws) (old new : Parts) (events id : ℕ) (access : Acce
       (subst (λ n. AreAmongWith (accesses_of (flights_of new.iommu).rows) (record { device = id; frame = n; kind = access.kind; number = so_far + 1 }) (accesses_of (flights_of old.iommu).rows)) frame
       (subst (λ (f : Flights). AreAmongWith (accesses_of f.rows) (record { device = id; frame = call.frame; kind = access.kind; number = so_far + 1 }) (accesses_of (flights_of old.iommu).rows)) (sym is.after)
       (accepted_among (flights_of old.iommu).rows id is.row (record { access = access; frame = call.frame }) (so_far + 1) is.stands)))
-      (λ d there. there) (λ key translation at. at) source allowed (between_scene old new id keeps change has))
+      (λ d there. there) (λ key translation at. at) source allowed [] (between_scene old new id keeps change [] has))
 
   keeps_accept : access.address < 2 ^ 64 → new.memory ≡ old.memory → (number : ℕ) → AcceptsRequest old.memory old.iommu id access number new.iommu → PartsInvariant new events
   keeps_accept fits memory number call =

@@ -144,7 +144,7 @@ reset_sound old events id invariants below found =
     (reset_epochs old.devices events id invariants.known.caches invariants.epochs below)
     (reset_scene (values_of old) (values_of new) id (entries_in (with_reset old.devices id)) (rest_kept old new keeps)
     (reset_under_way old.devices old.fabric (slots_of old.iommu) id invariants.known.caches)
-    (reset_others old.devices id invariants.known.own_ids found))
+    (reset_others old.devices id invariants.known.own_ids found) [] [] (λ walk there. absurd (in_none walk there)))
 
 -- ALL STAYS TRUE
 pub keeps_reset : (old new : Parts) (events id : ℕ) (reply : Outcome) → PartsInvariant old events → epoch_in old.devices id < events → ResetsDevice old id reply new → PartsInvariant new events

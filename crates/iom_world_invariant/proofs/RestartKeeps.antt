@@ -159,7 +159,7 @@ module _ (old new : Parts) (events : ℕ) (invariants : PartsInvariant old event
     serials = subst (λ (s : OpenSlots). s.last ≤ events) (sym emptied.slots) invariants.serials;
     epochs = same_epochs old new events invariants devices;
     contexts = λ id context at. ap (λ (ds : List Known). option_map context_for (owned_stages_of ds id)) same_devices ∙ invariants.contexts id context (sym (emptied.contexts id) ∙ at);
-    copies = ∥∥₁_map invariants.copies (restart_scene (values_of old) (values_of new) (known_ids old.driver.devices) commands restarts_all);
+    copies = ∥∥₁_map invariants.copies (restart_scene (values_of old) (values_of new) (known_ids old.driver.devices) commands restarts_all []);
   }
 
 pub keeps_restarted : (old new : Parts) (events : ℕ) (reply : Outcome) → PartsInvariant old events → DriverInvariant old.driver → IsReady new.driver new.memory (registers_of new.iommu)

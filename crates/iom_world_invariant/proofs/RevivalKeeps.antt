@@ -26,6 +26,7 @@ use Rattle.iom_base.specs.declared.device_kind.DeviceKind.{DeviceKind}
 use Rattle.iom_registers.specs.Queues.{command_status}
 use Rattle.iom_device.specs.declared.device.Device.{Device}
 use Rattle.iom_device.specs.Caches.{cache_of, device_with, epoch_in, kind_in}
+use Rattle.iom_coherence.proofs.ListLemmas.{in_none}
 use Rattle.iom_world_effects.specs.Devices.{shown_attachment}
 use Rattle.iom_world_effects.specs.Parts.{Parts}
 use Rattle.iom_world_effects.specs.Read.{values_of, accesses_of}
@@ -141,7 +142,7 @@ module _ (old new : Parts) (events id : ℕ) (invariants : PartsInvariant old ev
       (subst (λ (d : DriverState). d.given < 2 ^ 32) (sym writes.driver) invariants.small)
       (λ other context cached.
       ap (option_map context_for) (owned_still old new events id invariants own admitted writes other) ∙ invariants.contexts other context (ap (λ i. contexts_of i other) (sym iommu) ∙ cached))
-      (∥∥₁_map invariants.copies (revival_scene (values_of old) (values_of new) id (entries_in (with_reset old.devices id)) revives_one))
+      (∥∥₁_map invariants.copies (revival_scene (values_of old) (values_of new) id (entries_in (with_reset old.devices id)) revives_one [] [] (λ walk there. absurd (in_none walk there))))
 
 -- ALL STAYS TRUE
 pub keeps_revived : (old new : Parts) (events id : ℕ) (reply : Outcome) → PartsInvariant old events → DriverInvariant old.driver → IsReady new.driver new.memory (registers_of new.iommu)

@@ -4,7 +4,8 @@ use Rattle.std.proofs.Math.Logic.{∥∥₁_map}
 use Rattle.iom_command_queue.specs.Waiting.{commands_in}
 use Rattle.iom_coherence.specs.Transitions.{TimeOut}
 use Rattle.iom_coherence.specs.Scene.{Scene}
-use Rattle.iom_coherence.proofs.TransitionLemmas.{transitions_keep_facts}
+use Rattle.iom_walk_coherence.specs.Walks.{Walk}
+use Rattle.iom_world_effects.proofs.FactsKept.{facts_kept}
 use Rattle.iom_driver.specs.Ready.{IsReady}
 use Rattle.iom_driver.specs.State.{DriverState}
 use Rattle.iom_fault_queue.specs.Ring.{records_in}
@@ -21,7 +22,7 @@ use Rattle.iom_iommu.specs.OwnIommu.{Iommu}
 use Rattle.iom_world_effects.specs.Parts.{Parts}
 use Rattle.iom_world_effects.specs.Read.{values_of}
 use Rattle.iom_world_effects.specs.Recovery.{TimesOutFence}
-use Rattle.iom_world_effects.specs.Scenes.{Values, HasFaithfulScene}
+use Rattle.iom_world_effects.specs.Scenes.{Values, HasSceneWith}
 use Rattle.iom_world_effects.specs.Shows.{PartsShow}
 use Rattle.iom_world_effects.specs.Invariant.{PartsInvariant}
 use Rattle.iom_world_effects.specs.Traffic.{Traffic}
@@ -32,8 +33,8 @@ use Rattle.iom_world_effects.proofs.UnchangedLemmas.{shows_same}
 abbrev pub stopped_values : Values → Values
 stopped_values values = record values { fence_snapshot = None; is_stopped = true; traffic = record values.traffic { slots = [] } }
 
-timed_out_scene : (values : Values) → HasFaithfulScene values → HasFaithfulScene (stopped_values values)
-timed_out_scene values (scene, shows, facts) =
+timed_out_scene : (values : Values) (walks : List Walk) → HasSceneWith values walks → HasSceneWith (stopped_values values) walks
+timed_out_scene values walks (scene, shows, facts) =
     let next : Scene = record scene { slots = []; fence_snapshot = None; is_stopped = true } in (
       next,
       record {
@@ -55,12 +56,12 @@ timed_out_scene values (scene, shows, facts) =
         traffic = ap (λ (t : Traffic). record t { slots = [] }) shows.traffic;
         stopped = refl;
       },
-      transitions_keep_facts TimeOut scene next facts refl,
+      facts_kept TimeOut scene next walks walks refl facts refl,
     )
 
 -- A FENCE IS GIVEN UP: the slots are closed, and no command is taken
-pub timeout_scene : (old new : Values) → new ≡ stopped_values old → HasFaithfulScene old → HasFaithfulScene new
-timeout_scene old new is has = subst HasFaithfulScene (sym is) (timed_out_scene old has)
+pub timeout_scene : (old new : Values) → new ≡ stopped_values old → (walks : List Walk) → HasSceneWith old walks → HasSceneWith new walks
+timeout_scene old new is walks has = subst (λ values. HasSceneWith values walks) (sym is) (timed_out_scene old walks has)
 
 -- the world then
 abbrev pub stopped_parts : Parts → Parts
@@ -105,7 +106,7 @@ stopped_sound parts events invariants = record {
   epochs = invariants.epochs;
   contexts = invariants.contexts;
   copies = ∥∥₁_map invariants.copies
-      (timeout_scene (values_of parts) (values_of (stopped_parts parts)) (ap (λ l. record (stopped_values (values_of parts)) { waiting = l }) (same_list parts.memory (registers_of parts.iommu))));
+      (timeout_scene (values_of parts) (values_of (stopped_parts parts)) (ap (λ l. record (stopped_values (values_of parts)) { waiting = l }) (same_list parts.memory (registers_of parts.iommu))) []);
 }
 
 -- the parts are the same, or those of a fence that was given up

@@ -51,7 +51,7 @@ uncached_plain parts events id kind invariants there uncached = by (has_ats (sho
     by : (b : Bool) → has_ats (shown_attachment (attachment_by_id parts.driver.devices id)) ≡ b → has_ats (shown_attachment (attachment_by_id parts.driver.devices id)) ≡ false
     by false is = is
     by true is = absurd (not_there invariants.copies (λ (scene, shown, facts).
-        false≢true (sym uncached ∙ sym (ap caches_translations (shown.kinds id ∙ there)) ∙ facts.order.cached id (ap has_ats (shown.attachments id) ∙ is))))
+        false≢true (sym uncached ∙ sym (ap caches_translations (shown.kinds id ∙ there)) ∙ facts.copies.order.cached id (ap has_ats (shown.attachments id) ∙ is))))
 
 -- the cause for which no context lets a request through that is of ATS
 abbrev pub IsNotLet : Attachment → ℕ → ℕ → Cause → Type 0

@@ -38,7 +38,7 @@ module _ (parts : Parts) (events : ℕ) (invariants : PartsInvariant parts event
       let other : Scene = record scene { history = state.history } in
       accesses_may other
       (facts_of_history parts.driver.ledger scene state.history is.ledger shows.ledger
-      (λ ticket later. shows.none_later ticket (subst (λ n. n < ticket) is.confirmed later)) facts)
+      (λ ticket later. shows.none_later ticket (subst (λ n. n < ticket) is.confirmed later)) facts.copies)
       (access_in_flight device flight)
       (subst (λ l. Contains l (access_in_flight device flight)) (sym is.in_flight) there)))
 

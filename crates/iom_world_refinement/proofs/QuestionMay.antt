@@ -144,13 +144,13 @@ module _ (parts : Parts) (events : ℕ) (state : State) (id page : ℕ) (stage :
   shown_cached : (mode : Mode) → in_both_stages (shown_attachment (attachment_by_id parts.driver.devices id)) ≡ is_both mode
       → MayTell (shown.Attached mode true) state id page (Page translation.frame translation.rights)
   shown_cached (First size) is =
-      shows_merely parts.driver.ledger state.history id page (translation.frame, translation.rights) shows.ledger (∥∥₁_map invariants.copies (λ (scene, at, facts). show_in is scene at facts))
+      shows_merely parts.driver.ledger state.history id page (translation.frame, translation.rights) shows.ledger (∥∥₁_map invariants.copies (λ (scene, at, facts). show_in is scene at facts.copies))
   shown_cached (Second size) is =
-      shows_merely parts.driver.ledger state.history id page (translation.frame, translation.rights) shows.ledger (∥∥₁_map invariants.copies (λ (scene, at, facts). show_in is scene at facts))
+      shows_merely parts.driver.ledger state.history id page (translation.frame, translation.rights) shows.ledger (∥∥₁_map invariants.copies (λ (scene, at, facts). show_in is scene at facts.copies))
   shown_cached (Both size) is = (
     allowed,
     (λ kind allowing. may_merely state.history id translation.frame kind (∥∥₁_map invariants.copies
-        (λ (scene, at, facts). reachable_in parts events state id page stage translation invariants own shows owned cached true is scene at facts kind allowing))),
+        (λ (scene, at, facts). reachable_in parts events state id page stage translation invariants own shows owned cached true is scene at facts.copies kind allowing))),
   )
 
   -- of a device that is quarantined it is what lingers
@@ -161,7 +161,7 @@ module _ (parts : Parts) (events : ℕ) (state : State) (id page : ℕ) (stage :
     subst (λ b. MayTellFormerly s.mode b state.history id page (Page translation.frame translation.rights)) (sym ats)
         (show_formerly state.history id page translation.frame translation.rights (quarantined_holds parts.driver own state.history shows.ledger id ticket s is) s.mode allowed
         (∥∥₁_map invariants.copies (λ (scene, at, facts).
-        reachable_in parts events state id page stage translation invariants own shows owned cached (is_both s.mode) (ap (λ a. in_both_stages (shown_attachment a)) is) scene at facts))),
+        reachable_in parts events state id page stage translation invariants own shows owned cached (is_both s.mode) (ap (λ a. in_both_stages (shown_attachment a)) is) scene at facts.copies))),
   )
 
   pub cached_tell : (a : Attachment) → attachment_by_id parts.driver.devices id ≡ a → has_ats (shown_attachment a) ≡ true

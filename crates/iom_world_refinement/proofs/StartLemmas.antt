@@ -10,6 +10,7 @@ use Rattle.iom_base.specs.declared.owner.Owner.{Owner}
 use Rattle.iom_base.specs.declared.owner.Owner.TheVariants.{System}
 use Rattle.iom_device_dir.specs.declared.context.Context.{Context}
 use Rattle.iom_coherence.specs.Laws.{scene_after_fence}
+use Rattle.iom_coherence.proofs.ListLemmas.{in_none}
 use Rattle.iom_coherence.proofs.TransitionLemmas.{faithful_after_fence}
 use Rattle.iom_driver.specs.Fences.{last_fence, fence_of}
 use Rattle.iom_driver.specs.Calls.{IsOpening, StartsFrom, turned_on}
@@ -326,7 +327,7 @@ module _ (first_fence n levels : ℕ) (first next : DriverState) (before memory 
     small = rw given_none (omega arith);
     counted = rw none_accepted (omega arith);
     contexts = λ id context cached. absurd (no_context id context cached);
-    copies = ∣ (scene_after_fence (first_fence - 1), scene_shows, faithful_after_fence (first_fence - 1)) ∣₁;
+    copies = ∣ (scene_after_fence (first_fence - 1), scene_shows, record { copies = faithful_after_fence (first_fence - 1); standing = λ walk there. absurd (in_none walk there) }) ∣₁;
   }
 
   -- the IOMMU was at power-on, and was started since

@@ -1,5 +1,5 @@
 // What is told of a line of a file that isn't in the grammar. The file is read once more for it: a run keeps no line.
-use iom_bad_lines::{explain_hardware_line, is_first_spoken, line_at, wrong_end};
+use iom_bad_lines::{explain_hardware_line, is_first_spoken, is_past_limit, line_at, wrong_end};
 use iom_script::SCRIPT_LIMIT;
 use iom_script_reading::read_script;
 use std::{fs, str};
@@ -27,20 +27,27 @@ fn explain_text(rt: &HostRuntime, file: &str, text: &str, place: usize) {
     );
 }
 
-/// Tells on standard error what is wrong with the line of the file, where that can be read again, and isn't longer than a
-/// script may be, as a live session can.
-pub(crate) fn explain_line(rt: &HostRuntime, file: &str, number: u64) {
+/// Tells on standard error that the line goes beyond what a script may have. A live session may be longer: of such a line of it
+/// nothing is told.
+fn explain_length(rt: &HostRuntime, live: bool, file: &str, place: usize) {
+    if !live {
+        let _ = eprintln!(rt;
+            "iommu-hw: {file}: line {place}: the script is longer than {SCRIPT_LIMIT} bytes"
+        );
+    }
+}
+
+/// Tells on standard error what is wrong with the line of the file, where that can be read again.
+pub(crate) fn explain_line(rt: &HostRuntime, live: bool, file: &str, number: u64) {
     let Ok(mut opened) = fs::open(rt, file) else {
         return;
     };
     let Ok(bytes) = read_script(rt.alloc(), &mut opened) else {
         return;
     };
-    if bytes.len() > SCRIPT_LIMIT {
-        return;
-    }
     let place = usize::try_from(number).unwrap_or(usize::MAX);
     match str::from_utf8(&bytes) {
+        Ok(text) if is_past_limit(text, place) => explain_length(rt, live, file, place),
         Ok(text) => explain_text(rt, file, text, place),
         Err(_) => {
             let _ = eprintln!(rt; "iommu-hw: {file}: line {place}: it isn't text");

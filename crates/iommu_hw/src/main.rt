@@ -98,7 +98,7 @@ fn run_file<L: Write>(rt: &HostRuntime, live: bool, file: &str, log: &mut L) -> 
     let ended = run_lines(rt, live, &mut opened, log);
     let status = end(rt, ended);
     if let Err(RunFault::BadScript(number)) = ended {
-        explain_line(rt, file, number);
+        explain_line(rt, live, file, number);
     }
     status
 }
@@ -116,6 +116,9 @@ fn start(rt: &HostRuntime, arguments: &Arguments<'_>) -> u8 {
     let Some(log) = arguments.log else {
         return run_from(rt, arguments, &mut io::sink());
     };
+    if arguments.file == Some(log) {
+        return refuse(rt, "the log is the file that the lines come from");
+    }
     match fs::create(rt, log) {
         Ok(mut created) => run_from(rt, arguments, &mut created),
         Err(_) => fail(rt, log, "writing failed"),

@@ -91,6 +91,21 @@ fn tell_all(rt: &HostRuntime, name: &str, found: &Findings) -> io::Result<Status
     Ok(status)
 }
 
+/// Judges what the reader has. Of an empty trace that is said: what should have made it may have failed.
+fn judge_read<R: Read + Drop>(
+    rt: &HostRuntime,
+    name: &str,
+    reader: R,
+    most: usize,
+) -> io::Result<Findings> {
+    let mut watched = Watched::new(rt, name, reader);
+    let found = judge_on(rt.alloc(), &mut watched, most)?;
+    if watched.is_empty() {
+        let _ = eprintln!(rt; "iommu-judge: {name}: the trace is empty");
+    }
+    Ok(found)
+}
+
 /// Judges what the opened reader has, and tells what is found of what has this name. It fails where standard output can't be written.
 fn judge<R: Read + Drop>(
     rt: &HostRuntime,
@@ -99,7 +114,7 @@ fn judge<R: Read + Drop>(
     most: usize,
 ) -> io::Result<Status> {
     let found = match opened {
-        Ok(reader) => judge_on(rt.alloc(), &mut Watched::new(rt, name, reader), most),
+        Ok(reader) => judge_read(rt, name, reader, most),
         Err(error) => Err(error),
     };
     match found {

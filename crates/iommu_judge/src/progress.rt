@@ -7,13 +7,15 @@ use std::io::{self, IsTerminal, Read};
 /// So many lines are read from one word to the next.
 const LINES_BETWEEN: u64 = 10_000_000;
 
-/// A reader of a trace. Where somebody watches, it says how many lines were read, every ten million.
+/// A reader of a trace, which knows whether there was any. Where somebody watches, it says how many lines were read, every ten
+/// million.
 #[derive(Drop)]
 pub(crate) struct Watched<'a, R> {
     inner: R,
     rt: &'a HostRuntime,
     name: &'a str,
     is_watched: bool,
+    is_empty: bool,
     lines: u64,
 }
 
@@ -24,8 +26,14 @@ impl<'a, R> Watched<'a, R> {
             rt,
             name,
             is_watched: rt.stderr().is_terminal(),
+            is_empty: true,
             lines: 0,
         }
+    }
+
+    /// Whether no byte came.
+    pub(crate) fn is_empty(&self) -> bool {
+        self.is_empty
     }
 
     /// Counts the lines that end in these bytes. Where standard error can't be written nothing is said.
@@ -46,6 +54,7 @@ impl<R: Read> Read for Watched<'_, R> {
 
     fn read(&mut self, buffer: &mut [u8]) -> io::Result<usize> {
         let count = self.inner.read(buffer)?;
+        self.is_empty &= count == 0;
         if self.is_watched {
             self.note(buffer.get(..count).unwrap_or(&[]));
         }

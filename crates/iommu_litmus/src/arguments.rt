@@ -36,6 +36,8 @@ pub(crate) enum Request<'a> {
 pub(crate) enum ArgumentsFault {
     /// It isn't a lawful one.
     Bad,
+    /// It has a test written over.
+    Overwrites,
     Memory,
 }
 
@@ -98,6 +100,16 @@ fn files_of<'a>(alloc: Global, matches: &ArgMatches<'a>) -> Result<Vec<&'a str>,
     Ok(files)
 }
 
+/// Whether a file that is written is one of the tests.
+fn writes_over(choice: Choice<'_>, files: &[&str]) -> bool {
+    for file in files {
+        if choice.schedule == Some(*file) || choice.graph == Some(*file) {
+            return true;
+        }
+    }
+    false
+}
+
 /// What the words after the program's name ask for.
 pub(crate) fn read_words(alloc: Global, words: &[String]) -> Result<Request<'_>, ArgumentsFault> {
     let Ok(command) = parser(alloc) else {
@@ -127,6 +139,9 @@ pub(crate) fn read_words(alloc: Global, words: &[String]) -> Result<Request<'_>,
     };
     if files.len() > 1 && (choice.schedule.is_some() || choice.graph.is_some()) {
         return Err(ArgumentsFault::Bad);
+    }
+    if writes_over(choice, &files) {
+        return Err(ArgumentsFault::Overwrites);
     }
     Ok(Request::Answer { choice, files })
 }

@@ -174,6 +174,12 @@ fn run(rt: &HostRuntime, words: &[String]) -> Ending {
         Err(ArgumentsFault::Memory) => {
             complain(rt, "command line", "out of memory", Ending::Failed)
         }
+        Err(ArgumentsFault::Overwrites) => complain(
+            rt,
+            "command line",
+            "a file that is to be written is the test itself",
+            Ending::BadCommandLine,
+        ),
         Err(ArgumentsFault::Bad) => complain(
             rt,
             "command line",

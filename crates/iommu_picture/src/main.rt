@@ -4,7 +4,8 @@
 //!
 //! The exit status is 0 where it was drawn, 1 where reading, writing or memory failed, 2 where a line isn't in the grammar, and
 //! 3 where the command line isn't lawful. What goes wrong is told on standard error, as `iommu-picture: NAME: TEXT`, and then
-//! nothing is drawn.
+//! nothing is drawn. Where the trace has nothing of a frame or a device that is chosen that is told there too, beside the
+//! picture.
 #![tactic(auto)]
 
 mod arguments;
@@ -12,6 +13,7 @@ mod arguments;
 use crate::arguments::{ArgumentsFault, Request, read_words};
 use iom_picture::{Choice, Reading, draw, read_trace};
 use iom_programs::{INPUT, cause_of, why_no_words, words_of};
+use iom_timeline::Timeline;
 use std::fs;
 use std::io::{self, Write};
 use std::process::ExitCode;
@@ -51,6 +53,35 @@ fn tell(rt: &HostRuntime, bytes: &[u8]) -> u8 {
     }
 }
 
+/// Tells on standard error that a trace has nothing of what was chosen.
+fn note_absent(rt: &HostRuntime, name: &str, choice: Choice) {
+    let _ = match (choice.frame, choice.device) {
+        (Some(frame), Some(device)) => {
+            eprintln!(rt;
+                "iommu-picture: {name}: it has nothing of device {device:06x} at frame {frame}"
+            )
+        }
+        (Some(frame), None) => eprintln!(rt;
+            "iommu-picture: {name}: it has nothing of frame {frame}"
+        ),
+        (None, Some(device)) => {
+            eprintln!(rt; "iommu-picture: {name}: it has nothing of device {device:06x}")
+        }
+        (None, None) => Ok(()),
+    };
+}
+
+/// Draws the trace that was read of what has this name, and gives the exit status.
+fn draw_trace(rt: &HostRuntime, name: &str, choice: Choice, timeline: &Timeline) -> u8 {
+    if !choice.is_in(timeline) {
+        note_absent(rt, name, choice);
+    }
+    match draw(rt.alloc(), choice, timeline) {
+        Ok(picture) => tell(rt, &picture),
+        Err(_) => complain(rt, name, "out of memory", FAILED),
+    }
+}
+
 /// Draws what was read of what has this name, and gives the exit status.
 fn end(rt: &HostRuntime, name: &str, choice: Choice, read: io::Result<Reading>) -> u8 {
     match read {
@@ -59,10 +90,7 @@ fn end(rt: &HostRuntime, name: &str, choice: Choice, read: io::Result<Reading>) 
             let _ = eprintln!(rt; "iommu-picture: {name}: line {line} isn't in the grammar");
             NOT_IN_GRAMMAR
         }
-        Ok(Reading::Trace(timeline)) => match draw(rt.alloc(), choice, &timeline) {
-            Ok(picture) => tell(rt, &picture),
-            Err(_) => complain(rt, name, "out of memory", FAILED),
-        },
+        Ok(Reading::Trace(timeline)) => draw_trace(rt, name, choice, &timeline),
     }
 }
 

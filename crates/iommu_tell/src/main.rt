@@ -10,10 +10,10 @@
 ghost use Rattle.std.specs.Prelude.{◌≤◌, length, IfSome};
 ghost use Rattle.iom_script.specs.Grammar.{IsWorldSize};
 
-use iom_bad_lines::{FIRST, SCRIPT_FORMS, explain, is_first_spoken, line_at, wrong_end};
+use iom_bad_lines::{explain_script_line, is_first_spoken, is_past_limit, line_at, wrong_end};
 use iom_programs::{INPUT, cause_of, is_file, why_no_words, words_of};
 use iom_runner::program_disks;
-use iom_script::{Script, ScriptFault, parse};
+use iom_script::{SCRIPT_LIMIT, Script, ScriptFault, parse};
 use iom_script_reading::{ReadFault, read_script};
 use iom_telling::{TellingFault, tell};
 use std::io::{IsTerminal, Read, Write};
@@ -81,6 +81,12 @@ fn complain_of_line(rt: &HostRuntime, name: &str, bytes: &[u8], number: u64) {
         let _ = eprintln!(rt; "iommu-tell: {name}: line {number}: bad script: it isn't text");
         return;
     };
+    if is_past_limit(text, place) {
+        let _ = eprintln!(rt;
+            "iommu-tell: {name}: line {number}: bad script: it is longer than {SCRIPT_LIMIT} bytes"
+        );
+        return;
+    }
     let line = line_at(text, place);
     let is_first = is_first_spoken(text, place);
     if line.starts_with("world ") && !is_first {
@@ -89,8 +95,7 @@ fn complain_of_line(rt: &HostRuntime, name: &str, bytes: &[u8], number: u64) {
         );
         return;
     }
-    let forms: &[&'static str] = if is_first { &FIRST } else { &SCRIPT_FORMS };
-    let wrong = explain(line, forms);
+    let wrong = explain_script_line(line, is_first);
     if wrong.found.is_empty() {
         if let Some(end) = wrong_end(text, place) {
             let _ = eprintln!(rt; "iommu-tell: {name}: line {number}: bad script: {end}");

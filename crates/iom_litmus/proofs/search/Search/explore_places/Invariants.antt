@@ -4,7 +4,7 @@ use Rattle.iom_litmus.specs.Graphs.{Answer}
 use Rattle.iom_litmus.specs.Listed.{KeepsListed}
 use Rattle.iom_litmus.specs.Rules.{noting}
 use Rattle.iom_litmus.specs.Searches.{IsExploring}
-use Rattle.iom_litmus.proofs.search.Search.find_places.Given as goal
+use Rattle.iom_litmus.proofs.search.Search.explore_places.Given as goal
 
 abbrev pub invariant-loop-current : goal.invariant-loop-current
 invariant-loop-current g l = (cells : List Spot) → KeepsListed l.tries.changing cells
