@@ -12,7 +12,7 @@ use iom_hardware_runner::run;
 use std::{fs, io};
 
 /// The scripts of `data/drivers`. A new one is its two files and a line here.
-static DRIVERS: [&str; 73] = [
+static DRIVERS: [&str; 74] = [
     "correct-first",
     "correct-second",
     "correct-ats",
@@ -50,6 +50,7 @@ static DRIVERS: [&str; 73] = [
     "frame-used-later",
     "certain-no-more",
     "trusted-writes",
+    "trusted-quiesce",
     "hardwired-registers",
     "block-forges",
     "block-correct",

@@ -63,11 +63,12 @@ fn read(alloc: Global, text: &[u8]) -> Result<Option<HardwareLine>, RunFault>
     line_of(alloc, text).map_err(|_| RunFault::Memory)
 }
 
-/// Appends how many things hardware did on the way to rest, and how many of them were violations.
+/// Appends how many things hardware did on the way to rest, how many of them were violations, and which claims fell.
 fn put_quiet(
     alloc: Global,
     steps: u64,
     violations: u64,
+    fallen: &str,
     output: &mut Output,
 ) -> Result<(), RunFault>
     ensures named { IfErr result NamesNone }
@@ -78,6 +79,7 @@ fn put_quiet(
         let violated = format!(in alloc; "; violated {violations} times");
         output.answer(violated.map_err(|_| RunFault::Memory)?.as_bytes())?;
     }
+    output.answer(fallen.as_bytes())?;
     output.answer(b"\n")
 }
 
@@ -342,20 +344,30 @@ impl Machine {
             return Ok(Settling::Rests);
         };
         let is_fetch = is_fetch(&step);
-        let words = self.tell(step, output)?;
+        self.tell(step, output)?;
         if is_fetch && self.is_stuck(head) {
             return Ok(Settling::Rests);
         }
-        // Nothing but a violation has words behind the answer of a step.
-        if words.is_empty() {
-            Ok(Settling::Moved)
-        } else {
+        if self.teller.has_violated() {
             Ok(Settling::Violated)
+        } else {
+            Ok(Settling::Moved)
         }
     }
 
-    /// Hardware goes on until it rests. How many things it did, and how many of them were violations.
-    fn settle(&mut self, output: &Output) -> Result<(u64, u64), RunFault>
+    /// Appends which claims that were good aren't any more, behind the last step.
+    fn add_fallen(&self, fallen: &mut String) -> Result<(), RunFault>
+        ensures named { IfErr result NamesNone }
+    {
+        let Ok(words) = self.teller.tell_fallen() else {
+            return Err(RunFault::Memory);
+        };
+        fallen.push_str(&words).map_err(|_| RunFault::Memory)
+    }
+
+    /// Hardware goes on until it rests. How many things it did, and how many of them were violations; which claims that were good
+    /// aren't any more is appended.
+    fn settle(&mut self, fallen: &mut String, output: &Output) -> Result<(u64, u64), RunFault>
         ensures rests { OnOk result (Rests self.old.teller self.new.teller) }
         ensures helper { self.new.helper ≡ self.old.helper }
         ensures named { IfErr result NamesNone }
@@ -367,6 +379,7 @@ impl Machine {
                 Settling::Moved => {}
                 Settling::Violated => violations = violations.saturating_add(1),
             }
+            self.add_fallen(fallen)?;
         }
         // Each step is an event, so these are too many before.
         Err(RunFault::TooManyEvents)
@@ -378,7 +391,8 @@ impl Machine {
         ensures helper { self.new.helper ≡ self.old.helper }
         ensures named { IfErr result NamesNone }
     {
-        let (steps, violations) = self.settle(output)?;
-        put_quiet(self.alloc, steps, violations, output)
+        let mut fallen = String::new(self.alloc);
+        let (steps, violations) = self.settle(&mut fallen, output)?;
+        put_quiet(self.alloc, steps, violations, &fallen, output)
     }
 }

@@ -30,6 +30,8 @@ pub(crate) struct Teller {
     buffer: LineBuffer,
     /// Whether anything was wrong: a claim, an access, or a claim that was good before.
     pub(crate) is_wrong: bool,
+    /// Whether the last line made an access that nothing claimed allows.
+    violated: bool,
 }
 
 /// What is named by a claim: a frame, and a page of a device.
@@ -96,6 +98,7 @@ impl Teller {
             chronicle: Chronicle::new(alloc, frames, napot)?,
             buffer: LineBuffer::new(alloc)?,
             is_wrong: false,
+            violated: false,
         })
     }
 
@@ -308,6 +311,7 @@ impl Teller {
     {
         let stepped = self.session.line(line);
         self.is_wrong |= self.session.is_wrong(&stepped);
+        self.violated = stepped.violated;
         put_answer(
             &mut self.buffer,
             line,
@@ -381,9 +385,16 @@ impl Teller {
         Ok(words)
     }
 
-    /// Which claims that were good aren't any more, behind a line of software.
-    fn tell_fallen(&self) -> Result<String, AllocError> {
+    /// Which claims that were good aren't any more, behind the last line.
+    pub(crate) fn tell_fallen(&self) -> Result<String, AllocError> {
         fallen(self.alloc, &self.session, &self.chronicle)
+    }
+
+    /// Whether the last line made an access that nothing claimed allows.
+    pub(crate) fn has_violated(&self) -> bool
+        ensures { result ≡ self.now.violated }
+    {
+        self.violated
     }
 
     /// How many events hardware has counted.

@@ -1,5 +1,5 @@
 -- What stays true of a world when the IOMMU takes a command, or looks for one.
-use Rattle.std.proofs.Common.{◌≡◌, ◌+◌, ap, refl, sym, subst}
+use Rattle.std.proofs.Common.{◌+◌, ap, refl, sym, subst}
 use Rattle.iom_board.specs.Looks.{FetchesOnce, LooksForCommand}
 use Rattle.iom_board.specs.declared.board.Board.{Board}
 use Rattle.iom_driver.specs.Laws.{ReadyStays}
@@ -17,7 +17,7 @@ use Rattle.iom_world_effects.specs.Effect.{fetch_named}
 use Rattle.iom_world_effects.specs.Invariant.{PartsInvariant}
 use Rattle.iom_world_effects.proofs.DriverLemmas.{driver_invariant}
 use Rattle.iom_world_effects.proofs.PartsLemmas.{stays_of}
-use Rattle.iom_world_invariant.proofs.FetchKeeps.{keeps_fetched}
+use Rattle.iom_world_invariant.proofs.FetchKeeps.{none_fetched, keeps_fetched}
 use Rattle.iom_world_refinement.proofs.EventLemmas.{serials_counted}
 use Rattle.iom_world.proofs.InParts.{fetched_in_parts}
 use Rattle.iom_world.proofs.OfHardware.{with_driver, counted, at_count, agrees_now}
@@ -30,10 +30,11 @@ pub record FitsInto {D : Type 0} {d : Ghosts D} (world : World D d) (board : Boa
 pub fetched_fits : {D : Type 0} {d : Ghosts D} (unchanged : ReadyStays) (world : World D d) (new : Board) (answer : Fetched) → FetchesOnce world.hardware.board answer new → FitsInto world new
 fetched_fits unchanged world new answer once =
     let parts = with_driver new (state_of world.driver) in
+    let effect = fetched_in_parts (parts_of world) parts refl answer once.effect in
     record {
       invariants = at_count parts (world.hardware.board.events + 1) new.events once.counted.events
           (keeps_fetched (parts_of world) parts (world.hardware.board.events + 1) (outcome.Fetched (fetch_named answer)) (counted world) (driver_invariant world.driver) (stays_of unchanged world.driver)
-          (serials_counted (parts_of world) world.hardware.board.events world.invariants) (fetched_in_parts (parts_of world) parts refl answer once.effect));
+          (serials_counted (parts_of world) world.hardware.board.events world.invariants) effect (none_fetched effect.answer));
       agrees = agrees_now world new (ap known_blocks once.effect.devices) once.counted.disks;
     }
 

@@ -1,6 +1,5 @@
 -- The oldest access in flight of a device is what a commit of it makes.
-use Rattle.std.proofs.Common.{◌≡◌, ◌∙◌, ℕ, Option, None, Some, refl, sym, ap}
-use Rattle.iom_inflight.specs.declared.made.MadeAt.{MadeAt}
+use Rattle.std.proofs.Common.{◌≡◌, ◌∙◌, ℕ, None, Some, sym, ap}
 use Rattle.iom_inflight.specs.Flights.{Flights, first_made, made_at, oldest_in, row_of}
 use Rattle.iom_inflight.proofs.Rows.{row_is_own}
 use Rattle.iom_world.specs.Made.{IsMadeByCommit}

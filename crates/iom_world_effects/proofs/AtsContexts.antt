@@ -1,5 +1,6 @@
 -- What a question or a translated request finds of its device's context in a sound world, by how the device is attached.
-use Rattle.std.proofs.Common.{zero, suc, ◌≡◌, ◌⊎◌, ◌∙◌, inl, inr, ℕ, Bool, true, is_some, Option, None, Some, Result, Ok, Err, option_map, refl, sym, ap, subst, arith, if◌then◌else◌}
+use Rattle.std.proofs.Common.{zero, suc, ◌≡◌, ◌⊎◌, ◌∙◌, inl, inr, ℕ, Bool, true, is_some, Option, None, Some, Result, Ok, Err, option_map, refl, sym, ap, subst, arith, if◌then◌else◌, List}
+use Rattle.iom_walk_coherence.specs.Walks.{Walk}
 use Rattle.iom_base.specs.declared.cause.Cause.{Cause}
 use Rattle.iom_base.specs.declared.cause.Cause.TheVariants.{TransactionTypeDisallowed}
 use Rattle.iom_base.specs.declared.mode.Mode.{Mode}
@@ -15,7 +16,7 @@ use Rattle.iom_driver.specs.State.{DriverState}
 use Rattle.iom_iommu.specs.Parts.{registers_of, contexts_of}
 use Rattle.iom_iommu.specs.Service.{found_context, context_or_cause, letting_ats, ats_context_in, ats_context_for}
 use Rattle.iom_world_effects.specs.Parts.{Parts}
-use Rattle.iom_world_effects.specs.Invariant.{PartsInvariant}
+use Rattle.iom_world_effects.specs.Invariant.{InvariantWith}
 use Rattle.iom_world_effects.proofs.QuarantinedLemmas.{IsPending, pending_cached}
 use Rattle.iom_world_effects.proofs.DriverLemmas.{DriverInvariant}
 use Rattle.iom_world_effects.proofs.ServedLemmas.{ServiceLaws, cause_at, located_as, found_as}
@@ -64,14 +65,14 @@ by_attachment d id (Leaving ticket stage) None true_for pends = inl refl
 by_attachment d id (Leaving ticket stage) (Some context) true_for pends = inr (cached_ats stage context (true_for context refl))
 
 -- WHAT IS FOUND
-found_for : ServiceLaws → (parts : Parts) (events : ℕ) → PartsInvariant parts events → DriverInvariant parts.driver → (id : ℕ)
+found_for : {walks : List Walk} → ServiceLaws → (parts : Parts) (events : ℕ) → InvariantWith walks parts events → DriverInvariant parts.driver → (id : ℕ)
     → ats_context_for parts.memory (registers_of parts.iommu) (contexts_of parts.iommu) id
     ≡ letting_ats (found_context (contexts_of parts.iommu id) (located_as parts.driver.levels id (stages_of parts.driver.devices id)))
 found_for laws parts events invariants own id =
     let found = context_or_cause parts.memory (registers_of parts.iommu) (contexts_of parts.iommu) id in
     ap (λ m. ats_context_in m found) (invariants.ready.directory invariants.started).mode ∙ ats_in parts.driver.levels own.sizes.in_range found ∙ ap letting_ats (found_as laws parts events invariants own id)
 
-pub finds_ats : ServiceLaws → (parts : Parts) (events : ℕ) → PartsInvariant parts events → DriverInvariant parts.driver → (id : ℕ)
+pub finds_ats : {walks : List Walk} → ServiceLaws → (parts : Parts) (events : ℕ) → InvariantWith walks parts events → DriverInvariant parts.driver → (id : ℕ)
     → FindsAts (attachment_by_id parts.driver.devices id) parts.driver id (ats_context_for parts.memory (registers_of parts.iommu) (contexts_of parts.iommu) id)
 finds_ats laws parts events invariants own id =
     subst (FindsAts (attachment_by_id parts.driver.devices id) parts.driver id) (sym (found_for laws parts events invariants own id))
@@ -79,7 +80,7 @@ finds_ats laws parts events invariants own id =
     (λ there. pending_cached parts events invariants id there))
 
 -- of a device that isn't attached only a cached context is found
-module _ (laws : ServiceLaws) (parts : Parts) (events : ℕ) (invariants : PartsInvariant parts events) (own : DriverInvariant parts.driver) (id : ℕ) (away : stages_of parts.driver.devices id ≡ None) where
+module _ {walks : List Walk} (laws : ServiceLaws) (parts : Parts) (events : ℕ) (invariants : InvariantWith walks parts events) (own : DriverInvariant parts.driver) (id : ℕ) (away : stages_of parts.driver.devices id ≡ None) where
   found_away : (cached : Option Context) → contexts_of parts.iommu id ≡ cached
       → ats_context_for parts.memory (registers_of parts.iommu) (contexts_of parts.iommu) id ≡ letting_ats (found_context cached (Err (cause_at parts.driver.levels id)))
   found_away cached at =

@@ -1,8 +1,9 @@
 -- What a cached translation lets the machine accept: it is of what its device holds at the page, or of what lingers there.
-use Rattle.std.proofs.Common.{◌≡◌, ◌/◌, ◌<◌, ◌∙◌, inl, inr, ℕ, Bool, true, false, Option, None, Some, option_map, Contains, refl, sym, ap, subst}
+use Rattle.std.proofs.Common.{◌≡◌, ◌/◌, ◌<◌, ◌∙◌, inl, inr, ℕ, Bool, true, false, Option, None, Some, option_map, Contains, refl, sym, ap, subst, List}
 use Rattle.std.proofs.Math.Logic.{∥∥₁_map}
 use Rattle.std.proofs.lemmas.Bool.{false≢true}
 use Rattle.std.proofs.lemmas.Grind.{not_there}
+use Rattle.iom_walk_coherence.specs.Walks.{Walk}
 use Rattle.iom_base.specs.declared.access.Access.{Access}
 use Rattle.iom_base.specs.Rights.{allows}
 use Rattle.iom_base.specs.Modes.{is_both}
@@ -32,7 +33,7 @@ use Rattle.iom_world_effects.specs.Parts.{Parts}
 use Rattle.iom_world_effects.specs.Read.{space_in, space_at, values_of}
 use Rattle.iom_world_effects.specs.Scenes.{copy_of, IsSceneOf}
 use Rattle.iom_world_effects.specs.Shows.{PartsShow}
-use Rattle.iom_world_effects.specs.Invariant.{PartsInvariant}
+use Rattle.iom_world_effects.specs.Invariant.{InvariantWith}
 use Rattle.iom_world_effects.proofs.QuarantinedLemmas.{IsPending, accept_formerly, quarantined_holds}
 use Rattle.iom_world_effects.proofs.DriverLemmas.{DriverInvariant}
 use Rattle.iom_world_effects.proofs.HistoryMay.{may_merely, facts_of_history}
@@ -86,7 +87,7 @@ one_space d own id other stage owned at = by (owned_stages_of d.devices other) r
         own.numbers.own other id s stage is owned (same_number s.mode stage.mode s.number stage.number (some_same (space_in s.mode s.number) (space_in stage.mode stage.number) named))
 
 -- a translation that is cached of a page of the device
-module _ (parts : Parts) (events : ℕ) (state : State) (id page : ℕ) (stage : Stages) (translation : Translation) (invariants : PartsInvariant parts events) (own : DriverInvariant parts.driver)
+module _ {walks : List Walk} (parts : Parts) (events : ℕ) (state : State) (id page : ℕ) (stage : Stages) (translation : Translation) (invariants : InvariantWith walks parts events) (own : DriverInvariant parts.driver)
     (shows : PartsShow parts state) (owned : owned_stages_of parts.driver.devices id ≡ Some stage)
     (cached : translations_of parts.iommu (space_in stage.mode stage.number, page) ≡ Some translation) where
   -- the scene has the translation as one of the device's
@@ -122,7 +123,7 @@ module _ (parts : Parts) (events : ℕ) (state : State) (id page : ℕ) (stage :
       none_some : ◌≡◌ {A = Option Stages} None (Some stage) → ⊥
       none_some same = cc
 
-module _ (parts : Parts) (events : ℕ) (state : State) (id : ℕ) (access : Access) (stage : Stages) (translation : Translation) (invariants : PartsInvariant parts events)
+module _ {walks : List Walk} (parts : Parts) (events : ℕ) (state : State) (id : ℕ) (access : Access) (stage : Stages) (translation : Translation) (invariants : InvariantWith walks parts events)
     (own : DriverInvariant parts.driver) (shows : PartsShow parts state) (owned : owned_stages_of parts.driver.devices id ≡ Some stage)
     (cached : translations_of parts.iommu (space_in stage.mode stage.number, access.address / 4096) ≡ Some translation) (allowed : allows translation.rights access.kind ≡ true)
     (pending : IsPending parts.driver id) where
@@ -167,7 +168,7 @@ module _ (parts : Parts) (events : ℕ) (state : State) (id : ℕ) (access : Acc
   by_attachment (driver.Quarantined ticket s) is = quarantined ticket s is
   by_attachment (driver.Leaving ticket s) is = absurd (leaves_none parts events state id (access.address / 4096) stage translation invariants own shows owned cached ticket s is)
 
-pub cached_accept : (parts : Parts) (events : ℕ) (state : State) (id : ℕ) (access : Access) (stage : Stages) (translation : Translation) → PartsInvariant parts events → DriverInvariant parts.driver
+pub cached_accept : {walks : List Walk} (parts : Parts) (events : ℕ) (state : State) (id : ℕ) (access : Access) (stage : Stages) (translation : Translation) → InvariantWith walks parts events → DriverInvariant parts.driver
     → PartsShow parts state → owned_stages_of parts.driver.devices id ≡ Some stage → translations_of parts.iommu (space_in stage.mode stage.number, access.address / 4096) ≡ Some translation
     → allows translation.rights access.kind ≡ true → IsPending parts.driver id → MayAccept (shown_attachment (attachment_by_id parts.driver.devices id)) state id access translation.frame
 cached_accept parts events state id access stage translation invariants own shows owned cached allowed pending =

@@ -6,6 +6,7 @@ use Rattle.std.proofs.lemmas.Bool.{false≢true, leb-true, leb-false, le-leb}
 use Rattle.std.proofs.lemmas.Bool.Decides.{eqb_tells}
 use Rattle.std.proofs.lemmas.Grind.{not_there}
 use Rattle.std.proofs.lemmas.List.Elements.{All-contains_itself, Contains-append_left, Contains-append_right}
+use Rattle.iom_walk_coherence.specs.Walks.{Walk}
 use Rattle.iom_ats_cache.specs.declared.entry.Entry.{Entry}
 use Rattle.iom_ats_cache.specs.Cache.{Cache, frame_for}
 use Rattle.iom_ats_cache.proofs.FindLemmas.{found_is}
@@ -54,7 +55,7 @@ use Rattle.iom_world_effects.specs.Parts.{Parts}
 use Rattle.iom_world_effects.specs.Read.{values_of}
 use Rattle.iom_world_effects.specs.Scenes.{copy_of, IsSceneOf}
 use Rattle.iom_world_effects.specs.Shows.{PartsShow}
-use Rattle.iom_world_effects.specs.Invariant.{PartsInvariant}
+use Rattle.iom_world_effects.specs.Invariant.{InvariantWith}
 use Rattle.iom_world_effects.specs.Traffic.{Traffic, entry_copy, entries_by, entries_in}
 use Rattle.iom_world_effects.proofs.AtsContexts.{FindsAts, ats_context, finds_ats, finds_cached}
 use Rattle.iom_world_effects.proofs.QuarantinedLemmas.{pending_cached, accept_formerly, quarantined_holds}
@@ -160,7 +161,7 @@ own_found memory address frame kind same inside =
     ap (λ (n : ℕ). if nat_lt n (length memory) then Ok (record { frame = n; rights = of_rights.rw; order = 0 }) else Err (plain (access_fault_of kind))) same
     ∙ ap (λ (b : Bool). if b then Ok (record { frame = frame; rights = of_rights.rw; order = 0 }) else Err (plain (access_fault_of kind))) (le-leb (suc frame) (length memory) inside)
 
-module _ (parts : Parts) (events id : ℕ) (access : Access) (frame : ℕ) (invariants : PartsInvariant parts events) (own : DriverInvariant parts.driver)
+module _ {walks : List Walk} (parts : Parts) (events id : ℕ) (access : Access) (frame : ℕ) (invariants : InvariantWith walks parts events) (own : DriverInvariant parts.driver)
     (entry : HasEntry parts.devices id (page_of access) access.kind frame) (usable : IsUsable parts id) where
   abbrev copy : Copy
   copy = copy_of id (page_of access) (record { frame = frame; rights = entry.rights; order = 0 })

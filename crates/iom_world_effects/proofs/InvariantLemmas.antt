@@ -3,6 +3,7 @@ use Rattle.std.proofs.Common.{zero, suc, ◌≡◌, ◌*◌, ◌/◌, ◌^◌, �
 use Rattle.std.specs.Option.{option_map_or}
 use Rattle.std.proofs.Math.Logic.{∥∥₁_elim}
 use Rattle.std.proofs.Props.{props}
+use Rattle.iom_walk_coherence.specs.Walks.{Walk}
 use Rattle.iom_command_queue.specs.OpenSlots.{OpenSlots}
 use Rattle.iom_fabric.specs.declared.fabric.OnLink.{OnLink}
 use Rattle.iom_command_queue.specs.Waiting.{commands_in}
@@ -27,8 +28,8 @@ use Rattle.iom_world_effects.specs.Devices.{shown_attachment}
 use Rattle.iom_world_effects.specs.Parts.{Parts}
 use Rattle.iom_world_effects.specs.Queued.{completed_in}
 use Rattle.iom_world_effects.specs.Read.{values_of}
-use Rattle.iom_world_effects.specs.Scenes.{IsSceneOf, HasFaithfulScene}
-use Rattle.iom_world_effects.specs.Invariant.{PartsInvariant, AreKnown, ContextsAreTrue, IsUnmarked}
+use Rattle.iom_world_effects.specs.Scenes.{IsSceneOf, HasSceneWith}
+use Rattle.iom_world_effects.specs.Invariant.{InvariantWith, AreKnown, ContextsAreTrue, IsUnmarked}
 use Rattle.iom_world_effects.proofs.DriverLemmas.{DriverInvariant}
 use Rattle.iom_device.specs.declared.device.Device.{Device}
 use Rattle.iom_device.specs.Caches.{kind_in}
@@ -39,7 +40,7 @@ le_prop : (a b : ℕ) → IsProp (a ≤ b)
 le_prop a b = hlevel props
 
 -- the last fence that was done isn't above the last that was queued
-pub completed_given : (parts : Parts) (events : ℕ) → PartsInvariant parts events → completed_in parts.memory ≤ last_fence parts.driver
+pub completed_given : {walks : List Walk} (parts : Parts) (events : ℕ) → InvariantWith walks parts events → completed_in parts.memory ≤ last_fence parts.driver
 completed_given parts events invariants =
     ∥∥₁_elim invariants.copies (le_prop (completed_in parts.memory) (last_fence parts.driver))
     (λ (scene, shows, facts). by scene shows facts.copies)
@@ -52,7 +53,7 @@ completed_given parts events invariants =
         omega (arith, low, done, last)
 
 -- no context of a detached device is cached
-pub detached_uncached : (parts : Parts) (id : ℕ) (context : Context) → ∥ HasFaithfulScene (values_of parts) ∥₁ → contexts_of parts.iommu id ≡ Some context
+pub detached_uncached : {walks : List Walk} (parts : Parts) (id : ℕ) (context : Context) → ∥ HasSceneWith (values_of parts) walks ∥₁ → contexts_of parts.iommu id ≡ Some context
     → shown_attachment (attachment_by_id parts.driver.devices id) ≡ Detached → ⊥
 detached_uncached parts id context copies cached detached =
     ∥∥₁_elim copies (λ x y. absurd x) (λ (scene, shows, facts). by scene shows facts.copies)
@@ -76,7 +77,7 @@ pub still_unmarked : (r s : Registers) → command_status s ≡ command_status r
 still_unmarked r s same unmarked = record { loaded = ap (λ c. c.cqmf) same ∙ unmarked.loaded; legal = ap (λ c. c.cmd_ill) same ∙ unmarked.legal }
 
 -- commands are taken, unless a fence timed out
-pub processes : (parts : Parts) (events : ℕ) → PartsInvariant parts events → is_processing_commands (registers_of parts.iommu) ≡ not (command_status (registers_of parts.iommu)).cmd_to
+pub processes : {walks : List Walk} (parts : Parts) (events : ℕ) → InvariantWith walks parts events → is_processing_commands (registers_of parts.iommu) ≡ not (command_status (registers_of parts.iommu)).cmd_to
 processes parts events invariants =
     let r = registers_of parts.iommu in
     rw ((invariants.ready.ring invariants.started).on, invariants.unmarked.loaded, invariants.unmarked.legal) (by (command_status r).cmd_to)
@@ -98,9 +99,9 @@ pub record LeavesIommu (old new : Parts) : Type 0 where
   pub slots : slots_of new.iommu ≡ slots_of old.iommu
 
 -- so the facts stay, where these do
-pub sound_from : (old new : Parts) (events : ℕ) → PartsInvariant old events → LeavesWord old new → LeavesIommu old new → new.driver.started ≡ old.driver.started
+pub sound_from : {walks left : List Walk} (old new : Parts) (events : ℕ) → InvariantWith walks old events → LeavesWord old new → LeavesIommu old new → new.driver.started ≡ old.driver.started
     → IsReady new.driver new.memory (registers_of new.iommu) → AreKnown new → ((id : ℕ) → epoch_in new.devices id ≤ events) → new.driver.given < 2 ^ 32
-    → ContextsAreTrue new → ∥ HasFaithfulScene (values_of new) ∥₁ → PartsInvariant new events
+    → ContextsAreTrue new → ∥ HasSceneWith (values_of new) left ∥₁ → InvariantWith left new events
 sound_from old new events invariants leaves iommu started ready known epochs small contexts copies = record {
   ready = ready;
   started = started ∙ invariants.started;
@@ -116,7 +117,7 @@ sound_from old new events invariants leaves iommu started ready known epochs sma
 }
 
 -- the epochs of devices that are the same
-pub same_epochs : (old new : Parts) (events : ℕ) → PartsInvariant old events → new.devices ≡ old.devices → (id : ℕ) → epoch_in new.devices id ≤ events
+pub same_epochs : {walks : List Walk} (old new : Parts) (events : ℕ) → InvariantWith walks old events → new.devices ≡ old.devices → (id : ℕ) → epoch_in new.devices id ≤ events
 same_epochs old new events invariants same id = subst (λ (ds : List Device). epoch_in ds id ≤ events) (sym same) (invariants.epochs id)
 
 -- what is under way between devices that are the same, by the same messages and slots
@@ -140,14 +141,14 @@ same_iommu old new same = record {
 }
 
 -- the ring has its bytes, and the registers are the same: the same commands wait
-pub same_waiting : (old new : Parts) (events : ℕ) → PartsInvariant old events → registers_of new.iommu ≡ registers_of old.iommu
+pub same_waiting : {walks : List Walk} (old new : Parts) (events : ℕ) → InvariantWith walks old events → registers_of new.iommu ≡ registers_of old.iommu
     → slice_get new.memory (command_frame (length old.memory)) ≡ slice_get old.memory (command_frame (length old.memory))
     → commands_in new.memory (registers_of new.iommu) ≡ commands_in old.memory (registers_of old.iommu)
 same_waiting old new events invariants registers ring =
     ap (commands_in new.memory) registers ∙ same_commands old.memory new.memory (registers_of old.iommu) (invariants.ready.ring invariants.started) ring
 
 -- the fixed frames of a world
-pub fixed_frames : (old : Parts) (events : ℕ) → PartsInvariant old events → DriverInvariant old.driver → AreFixed old.driver.owners (length old.memory)
+pub fixed_frames : {walks : List Walk} (old : Parts) (events : ℕ) → InvariantWith walks old events → DriverInvariant old.driver → AreFixed old.driver.owners (length old.memory)
 fixed_frames old events invariants own = subst (AreFixed old.driver.owners) (sym invariants.ready.stand.size) own.fixed
 
 -- where no reason applies, none of them does

@@ -37,3 +37,4 @@ pub mod ResetScenes
 pub mod RevivalScenes
 pub mod WalkLemmas
 pub mod WalkScenes
+pub mod WalksLeft

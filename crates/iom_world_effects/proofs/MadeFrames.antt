@@ -3,6 +3,7 @@ use Rattle.std.proofs.Common.{◌≡◌, inl, inr, ◌∙◌, ℕ, Bool, false, 
 use Rattle.std.specs.Option.{option_map, option_map_or, option_to_list}
 use mathlib.Core.Logic.{∥∥₁_elim}
 use Rattle.std.proofs.Props.{props}
+use Rattle.iom_walk_coherence.specs.Walks.{Walk}
 use Rattle.iom_base.specs.declared.access.AccessKind.{AccessKind}
 use Rattle.iom_base.specs.declared.access.AccessKind.TheVariants.{Read}
 use Rattle.iom_base.specs.declared.owner.Owner.{Owner}
@@ -22,7 +23,7 @@ use Rattle.iom_table_frames.specs.Owners.{has_owner}
 use Rattle.iom_world_effects.specs.Commits.{TellsRead, TellsKind}
 use Rattle.iom_world_effects.specs.Parts.{Parts}
 use Rattle.iom_world_effects.specs.Read.{access_in_flight, accesses_of}
-use Rattle.iom_world_effects.specs.Invariant.{PartsInvariant}
+use Rattle.iom_world_effects.specs.Invariant.{InvariantWith}
 use Rattle.iom_world_effects.proofs.DriverLemmas.{DriverInvariant}
 use Rattle.iom_world_effects.proofs.RowLemmas.{row_accesses}
 
@@ -50,7 +51,7 @@ may_unreserved parts h device frame kind own agrees (page, rights, holds, allowe
     unmarked grant = ap (λ o. option_map_or (λ (mark : Option Owner). is_some mark) o false) grant.unreserved
 
 -- nor is that of an access in flight
-access_unreserved : (parts : Parts) (events : ℕ) (access : AccessInFlight) → PartsInvariant parts events → DriverInvariant parts.driver → Contains (accesses_of (flights_of parts.iommu).rows) access
+access_unreserved : {walks : List Walk} (parts : Parts) (events : ℕ) (access : AccessInFlight) → InvariantWith walks parts events → DriverInvariant parts.driver → Contains (accesses_of (flights_of parts.iommu).rows) access
     → has_owner parts.driver.owners access.frame ≡ false
 access_unreserved parts events access invariants own there =
     ∥∥₁_elim invariants.copies (a_fact (has_owner parts.driver.owners access.frame))
@@ -60,7 +61,7 @@ access_unreserved parts events access invariants own there =
     a_fact : (b : Bool) → IsProp (b ≡ false)
     a_fact b = hlevel props
 
-pub made_unreserved : (parts : Parts) (events id : ℕ) (made : Option MadeAt) (memory : List (List ℕ)) (now : Flights) → PartsInvariant parts events → DriverInvariant parts.driver
+pub made_unreserved : {walks : List Walk} (parts : Parts) (events id : ℕ) (made : Option MadeAt) (memory : List (List ℕ)) (now : Flights) → InvariantWith walks parts events → DriverInvariant parts.driver
     → MakesOldestInFlight parts.memory (flights_of parts.iommu) id made memory now → IfSome made (λ it. has_owner parts.driver.owners it.frame ≡ false)
 made_unreserved parts events id None memory now invariants own makes = tt
 made_unreserved parts events id (Some made) memory now invariants own makes =

@@ -1,9 +1,10 @@
 -- A device that is quarantined: while its context is cached its ticket isn't confirmed, and it holds nothing, so that what it may still reach lingers.
-use Rattle.std.proofs.Common.{◌≡◌, ◌<◌, ◌/◌, ◌⊎◌, ◌∙◌, inl, inr, ℕ, Bool, true, false, suc, nat_lt, is_some, Option, None, Some, refl, sym, ap, subst, arith}
+use Rattle.std.proofs.Common.{◌≡◌, ◌<◌, ◌/◌, ◌⊎◌, ◌∙◌, inl, inr, ℕ, Bool, true, false, suc, nat_lt, is_some, Option, None, Some, refl, sym, ap, subst, arith, List}
 use Rattle.std.specs.List.{list_any}
 use Rattle.std.proofs.Math.Logic.{∥∥₁_map}
 use Rattle.std.proofs.lemmas.Bool.{false≢true, leb-true, leb-false}
 use Rattle.std.proofs.lemmas.Grind.{not_there}
+use Rattle.iom_walk_coherence.specs.Walks.{Walk}
 use Rattle.iom_base.specs.declared.access.Access.{Access}
 use Rattle.iom_base.specs.declared.access.AccessKind.{AccessKind}
 use Rattle.iom_base.specs.declared.access.AccessKind.TheVariants.{Read}
@@ -31,7 +32,7 @@ use Rattle.iom_world_effects.specs.Devices.{shown_attachment}
 use Rattle.iom_world_effects.specs.Parts.{Parts}
 use Rattle.iom_world_effects.specs.Read.{values_of}
 use Rattle.iom_world_effects.specs.Scenes.{copy_of, IsSceneOf}
-use Rattle.iom_world_effects.specs.Invariant.{PartsInvariant}
+use Rattle.iom_world_effects.specs.Invariant.{InvariantWith}
 use Rattle.iom_world_effects.proofs.DriverLemmas.{DriverInvariant}
 
 -- a device that is quarantined is so under a ticket that isn't confirmed
@@ -39,7 +40,7 @@ abbrev pub IsPending : DriverState → ℕ → Type 0
 IsPending d id = (ticket : ℕ) (stage : Stages) → attachment_by_id d.devices id ≡ driver.Quarantined ticket stage → d.confirmed < ticket
 
 -- that is so while its context is cached
-pub pending_cached : (parts : Parts) (events : ℕ) → PartsInvariant parts events → (id : ℕ) → is_some (contexts_of parts.iommu id) ≡ true → IsPending parts.driver id
+pub pending_cached : {walks : List Walk} (parts : Parts) (events : ℕ) → InvariantWith walks parts events → (id : ℕ) → is_some (contexts_of parts.iommu id) ≡ true → IsPending parts.driver id
 pending_cached parts events invariants id there ticket stage is = by (nat_lt parts.driver.confirmed ticket) refl
   where
     above : (scene : Scene) → IsSceneOf (values_of parts) scene → IsFaithful scene → parts.driver.confirmed < ticket

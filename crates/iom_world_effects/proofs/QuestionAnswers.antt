@@ -1,5 +1,6 @@
 -- What a question is answered in a sound world, by how its device is attached: a translation only where it is attached, or leaves, with ATS.
-use Rattle.std.proofs.Common.{◌≡◌, ◌/◌, ◌^◌, ◌<◌, ◌⊎◌, ◌∙◌, inl, inr, ℕ, Bool, true, false, Result, Ok, Err, refl, sym, ap, subst, if◌then◌else◌}
+use Rattle.std.proofs.Common.{◌≡◌, ◌/◌, ◌^◌, ◌<◌, ◌⊎◌, ◌∙◌, inl, inr, ℕ, Bool, true, false, Result, Ok, Err, refl, sym, ap, subst, if◌then◌else◌, List}
+use Rattle.iom_walk_coherence.specs.Walks.{Walk}
 use Rattle.iom_base.specs.declared.access.AccessKind.TheVariants.{Read}
 use Rattle.iom_base.specs.declared.cause.Cause.{Cause}
 use Rattle.iom_base.specs.declared.cause.Cause.TheVariants.{TransactionTypeDisallowed}
@@ -20,7 +21,7 @@ use Rattle.iom_tlb.specs.declared.trans_cache.Translation.{Translation}
 use Rattle.iom_tlb.specs.Content.{Translations, TranslationsUnchanged}
 use Rattle.iom_world_effects.specs.Devices.{shown_attachment}
 use Rattle.iom_world_effects.specs.Parts.{Parts}
-use Rattle.iom_world_effects.specs.Invariant.{PartsInvariant}
+use Rattle.iom_world_effects.specs.Invariant.{InvariantWith}
 use Rattle.iom_world_effects.proofs.AtsContexts.{FindsAts, finds_ats}
 use Rattle.iom_world_effects.proofs.QuarantinedLemmas.{IsPending}
 use Rattle.iom_world_effects.proofs.DriverLemmas.{DriverInvariant}
@@ -45,7 +46,7 @@ IsToldOf sure d id address old (Ok answer) new =
     (has_ats (shown_attachment (attachment_by_id d.devices id)) ≡ true) × IsAnswered sure d id address Read old (Ok answer) new
 IsToldOf sure d id address old (Err fault) new = RefusedAs (attachment_by_id d.devices id) d id address fault.cause × TranslationsUnchanged old new
 
-module _ (laws : ServiceLaws) (parts : Parts) (events : ℕ) (invariants : PartsInvariant parts events) (own : DriverInvariant parts.driver) (id address : ℕ) (fits : address < 2 ^ 64)
+module _ {walks : List Walk} (laws : ServiceLaws) (parts : Parts) (events : ℕ) (invariants : InvariantWith walks parts events) (own : DriverInvariant parts.driver) (id address : ℕ) (fits : address < 2 ^ 64)
     (sure : Bool) (old new : Translations) where
   abbrev d : DriverState
   d = parts.driver
@@ -136,7 +137,7 @@ module _ (laws : ServiceLaws) (parts : Parts) (events : ℕ) (invariants : Parts
   by_found (Leaving ticket stage) found answer is (inr finds) served = by_leaving ticket stage answer is stage.ats refl (subst (λ f. Served f answer) finds served)
 
 -- WHAT A QUESTION IS ANSWERED
-pub outcome_of_done : ServiceLaws → (parts : Parts) (events : ℕ) → PartsInvariant parts events → DriverInvariant parts.driver → (id address : ℕ) (sure : Bool) (old new : Translations)
+pub outcome_of_done : {walks : List Walk} → ServiceLaws → (parts : Parts) (events : ℕ) → InvariantWith walks parts events → DriverInvariant parts.driver → (id address : ℕ) (sure : Bool) (old new : Translations)
     (answer : Result Translation WalkFault) → address < 2 ^ 64
     → ServesBy sure (ats_context_for parts.memory (registers_of parts.iommu) (contexts_of parts.iommu) id) parts.memory address Read old answer new
     → IsToldOf sure parts.driver id address old answer new

@@ -39,7 +39,7 @@ use Rattle.iom_tlb.specs.Invalidations.{covers_of}
 use Rattle.iom_tlb.proofs.LargeLemmas.{own_leaf}
 use Rattle.iom_world_effects.specs.Queued.{invalidation_in, extent_in, IsInvalidation, IsQueuedAs, AreQueuedAs}
 use Rattle.iom_world_effects.proofs.QueuedLemmas.{SpacesStay, queued_first, queued_still, come_after}
-use Rattle.iom_world_effects.specs.Scenes.{Values, copy_of, IsSomebodys, IsSnapshotOf, GoesInOrder, IsSceneOf, HasSceneWith, HasFaithfulScene, FactsHold}
+use Rattle.iom_world_effects.specs.Scenes.{Values, copy_of, IsSomebodys, IsSnapshotOf, GoesInOrder, IsSceneOf, HasSceneWith, FactsHold}
 use Rattle.iom_walk_coherence.specs.Transitions.{AreBegunAnew}
 use Rattle.iom_walk_coherence.specs.Walks.{Walk}
 use Rattle.iom_world_effects.specs.Messages.{range_of}
@@ -462,7 +462,7 @@ counted_none (Some n) None is none = absurd is
 counted_none (Some n) (Some fence_snapshot) is none = cc
 
 -- where no command waits, none was counted
-pub empty_counted : (values : Values) → values.waiting ≡ [] → HasFaithfulScene values → values.fence_snapshot ≡ None
+pub empty_counted : {walks : List Walk} (values : Values) → values.waiting ≡ [] → HasSceneWith values walks → values.fence_snapshot ≡ None
 empty_counted values none (scene, shows, facts) = by scene.fence_snapshot refl
   where
     by : (fence_snapshot : Option FenceSnapshot) → scene.fence_snapshot ≡ fence_snapshot → values.fence_snapshot ≡ None
@@ -474,8 +474,8 @@ empty_counted values none (scene, shows, facts) = by scene.fence_snapshot refl
         absurd queued
 
 -- a scene of values that differ in what was counted is one of these, where nothing was
-pub scene_uncounted : (values : Values) → values.waiting ≡ [] → HasFaithfulScene values → HasFaithfulScene (record values { fence_snapshot = None })
-scene_uncounted values none has = subst (λ fence_snapshot. HasFaithfulScene (record values { fence_snapshot = fence_snapshot })) (empty_counted values none has) has
+pub scene_uncounted : {walks : List Walk} (values : Values) → values.waiting ≡ [] → HasSceneWith values walks → HasSceneWith (record values { fence_snapshot = None }) walks
+scene_uncounted {walks = walks} values none has = subst (λ fence_snapshot. HasSceneWith (record values { fence_snapshot = fence_snapshot }) walks) (empty_counted values none has) has
 
 -- what the fence counted is what the snapshot says
 counted_as : (counted : Option ℕ) (so_far : ℕ) (taken : FenceSnapshot) → IsSnapshotOf counted (Some taken) → accepted_before counted so_far ≡ taken.accepted

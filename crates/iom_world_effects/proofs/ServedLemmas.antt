@@ -1,6 +1,7 @@
 -- What the IOMMU's service means in a sound world: an access is translated to what its device holds, and faults by how it is attached.
 use Rattle.std.proofs.Common.{zero, suc, ◌≡◌, ◌+◌, ◌*◌, ◌/◌, ◌%◌, ◌^◌, ◌<◌, ◌≤◌, ◌∙◌, ◌⊎◌, inl, inr, ℕ, Bool, true, false, List, [], length, slice_get, Option, Some, None, Result, Ok, Err, option_map, is_some, nat_le, nat_lt, refl, sym, ap, subst, arith, if◌then◌else◌}
 use Rattle.std.proofs.lemmas.Bool.{leb-false, leb-true, lt-leb, le-leb}
+use Rattle.iom_walk_coherence.specs.Walks.{Walk}
 use Rattle.iom_base.specs.declared.access.AccessKind.{AccessKind}
 use Rattle.iom_base.specs.declared.cause.Cause.{Cause}
 use Rattle.iom_base.specs.declared.cause.Cause.TheVariants.{DirectoryEntryNotValid, TransactionTypeDisallowed}
@@ -45,7 +46,7 @@ use Rattle.iom_stage_walk.specs.Both.{ReachesBoth, StopsBoth, plain}
 use Rattle.iom_stage_walk.specs.Paths.{ReachesFirst, StopsFirst}
 use Rattle.iom_stage_walk.specs.Second.{ReachesSecond, StopsSecond}
 use Rattle.iom_world_effects.specs.Parts.{Parts}
-use Rattle.iom_world_effects.specs.Invariant.{PartsInvariant}
+use Rattle.iom_world_effects.specs.Invariant.{InvariantWith}
 use Rattle.iom_world_effects.specs.Read.{space_in}
 use Rattle.iom_world_effects.proofs.QuarantinedLemmas.{IsPending, pending_cached}
 use Rattle.iom_world_effects.proofs.DriverLemmas.{DriverInvariant}
@@ -191,7 +192,7 @@ attached_owns (Attached own) stage at = at
 attached_owns (Quarantined ticket own) stage at = cc
 attached_owns (Leaving ticket own) stage at = cc
 
-module _ (laws : ServiceLaws) (parts : Parts) (events : ℕ) (invariants : PartsInvariant parts events) (own : DriverInvariant parts.driver) where
+module _ {walks : List Walk} (laws : ServiceLaws) (parts : Parts) (events : ℕ) (invariants : InvariantWith walks parts events) (own : DriverInvariant parts.driver) where
   abbrev d : DriverState
   d = parts.driver
 
@@ -417,7 +418,7 @@ module _ (laws : ServiceLaws) (parts : Parts) (events : ℕ) (invariants : Parts
         (served_in sure d.levels own.sizes.in_range found parts.memory address kind old answer new by_mode))
 
 -- WHAT THE SERVICE MEANS
-pub served : ServiceLaws → (parts : Parts) (events : ℕ) → PartsInvariant parts events → DriverInvariant parts.driver → (id address : ℕ) (kind : AccessKind) (sure : Bool) (old new : Translations)
+pub served : {walks : List Walk} → ServiceLaws → (parts : Parts) (events : ℕ) → InvariantWith walks parts events → DriverInvariant parts.driver → (id address : ℕ) (kind : AccessKind) (sure : Bool) (old new : Translations)
     (answer : Result Translation WalkFault) → address < 2 ^ 64 → Serves sure parts.memory (registers_of parts.iommu) (contexts_of parts.iommu) id address kind old answer new
     → IsAnswered sure parts.driver id address kind old answer new
 served laws parts events invariants own id address kind sure old new answer fits is = service laws parts events invariants own id address kind fits sure old new answer is

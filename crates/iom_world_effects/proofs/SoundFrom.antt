@@ -3,6 +3,7 @@ use Rattle.std.proofs.Common.{◌≡◌, ◌≢◌, ◌*◌, ◌/◌, ◌<◌, �
 use Rattle.std.specs.Option.{option_map_or}
 use Rattle.std.proofs.Math.Logic.{∥∥₁_map}
 use Rattle.std.proofs.lemmas.Bool.{false≢true}
+use Rattle.iom_walk_coherence.specs.Walks.{Walk}
 use Rattle.iom_command_queue.specs.OpenSlots.{OpenSlots}
 use Rattle.iom_base.specs.declared.owner.Owner.{Owner}
 use Rattle.iom_base.specs.declared.owner.Owner.TheVariants.{System}
@@ -25,8 +26,8 @@ use Rattle.iom_world_effects.specs.Devices.{shown_attachment}
 use Rattle.iom_world_effects.specs.Parts.{Parts}
 use Rattle.iom_world_effects.specs.Queued.{completed_in}
 use Rattle.iom_world_effects.specs.Read.{space_at, values_of}
-use Rattle.iom_world_effects.specs.Scenes.{HasFaithfulScene}
-use Rattle.iom_world_effects.specs.Invariant.{PartsInvariant, ContextsAreTrue, row_ids}
+use Rattle.iom_world_effects.specs.Scenes.{HasSceneWith}
+use Rattle.iom_world_effects.specs.Invariant.{InvariantWith, ContextsAreTrue, row_ids}
 use Rattle.iom_world_effects.proofs.DriverLemmas.{DriverInvariant}
 use Rattle.iom_world_effects.proofs.PartsLemmas.{StaysReady}
 use Rattle.iom_world_effects.proofs.SceneSteps.{KeepsGrants, KeepsQueue}
@@ -68,7 +69,7 @@ pub record Leaves (old new : Parts) : Type 0 where
   pub devices : new.devices ≡ old.devices
   pub fabric : new.fabric ≡ old.fabric
 
-module _ (old new : Parts) (events : ℕ) (invariants : PartsInvariant old events) (own : DriverInvariant old.driver) (leaves : Leaves old new) where
+module _ {walks : List Walk} (old new : Parts) (events : ℕ) (invariants : InvariantWith walks old events) (own : DriverInvariant old.driver) (leaves : Leaves old new) where
   fixed : AreFixed old.driver.owners (length old.memory)
   fixed = subst (λ m. AreFixed old.driver.owners m) (sym invariants.ready.stand.size) own.fixed
 
@@ -98,7 +99,7 @@ module _ (old new : Parts) (events : ℕ) (invariants : PartsInvariant old event
   queue_kept fence_snapshot = record { waiting = same_waiting; completed = same_done; fence_snapshot = fence_snapshot; traffic = traffic_kept old new leaves.devices leaves.fabric leaves.slots }
 
   pub sound_from : StaysReady old.driver → (flights_of new.iommu).so_far ≤ events → ContextsAreTrue new
-      → (HasFaithfulScene (values_of old) → HasFaithfulScene (values_of new)) → PartsInvariant new events
+      → (HasSceneWith (values_of old) walks → HasSceneWith (values_of new) walks) → InvariantWith walks new events
   sound_from unchanged counted contexts scene =
       let keeps : KeepsReserved old.driver old.memory new.memory = record { size = leaves.size; bytes = λ frame owner mark other. leaves.reserved frame owner mark } in
       let ring : KeepsRing (registers_of old.iommu) (registers_of old.iommu) = record { on = refl; base = refl; entries = refl; faults_on = refl; faults_base = refl; faults_head = refl; faults_tail = refl; mode = refl; root = refl } in
@@ -140,7 +141,7 @@ pub commands_by : (memory : List (List ℕ)) (r s : Registers) → LeavesCommand
 unfolding commands_in
 commands_by memory r s same = rw (same.base, same.head, same.tail) refl
 
-module _ (old new : Parts) (events : ℕ) (invariants : PartsInvariant old events) (own : DriverInvariant old.driver) (leaves : LeavesReport old new) where
+module _ {walks : List Walk} (old new : Parts) (events : ℕ) (invariants : InvariantWith walks old events) (own : DriverInvariant old.driver) (leaves : LeavesReport old new) where
   pub report_waiting : commands_in new.memory (registers_of new.iommu) ≡ commands_in old.memory (registers_of old.iommu)
   report_waiting =
       let many = own.sizes.size.0 in
@@ -173,7 +174,7 @@ module _ (old new : Parts) (events : ℕ) (invariants : PartsInvariant old event
   pub report_queue : fence_snapshot_of new.iommu ≡ fence_snapshot_of old.iommu → KeepsQueue (values_of old) (values_of new)
   report_queue fence_snapshot = record { waiting = report_waiting; completed = report_done; fence_snapshot = fence_snapshot; traffic = traffic_kept old new leaves.devices leaves.fabric leaves.slots }
 
-  pub report_sound : (flights_of new.iommu).so_far ≤ events → ContextsAreTrue new → (HasFaithfulScene (values_of old) → HasFaithfulScene (values_of new)) → PartsInvariant new events
+  pub report_sound : (flights_of new.iommu).so_far ≤ events → ContextsAreTrue new → (HasSceneWith (values_of old) walks → HasSceneWith (values_of new) walks) → InvariantWith walks new events
   report_sound counted contexts scene = record {
     ready = leaves.ready;
     started = rw leaves.driver invariants.started;

@@ -1,8 +1,9 @@
 -- What stays true of a world where only messages, the devices' caches and the open requests to invalidate change.
-use Rattle.std.proofs.Common.{◌≡◌, ◌^◌, ◌<◌, ◌≤◌, ◌⊎◌, ◌∙◌, ℕ, is_some, List, length, Contains, Some, refl, sym, ap, subst, []}
+use Rattle.std.proofs.Common.{◌≡◌, ◌^◌, ◌<◌, ◌≤◌, ◌⊎◌, ◌∙◌, ℕ, is_some, List, length, Contains, Some, refl, sym, ap, subst}
 use Rattle.std.specs.Option.{option_map}
 use Rattle.std.specs.List.{All}
 use Rattle.std.proofs.Math.Logic.{∥∥₁_map}
+use Rattle.iom_walk_coherence.specs.Walks.{Walk}
 use Rattle.iom_command_queue.specs.Waiting.{commands_in}
 use Rattle.iom_coherence.specs.Deliveries.{MayBeSent}
 use Rattle.iom_coherence.specs.Faithful.{IsFaithful}
@@ -25,8 +26,8 @@ use Rattle.iom_iommu.specs.OwnIommu.{Iommu}
 use Rattle.iom_world_effects.specs.Parts.{Parts}
 use Rattle.iom_world_effects.specs.Queued.{completed_in}
 use Rattle.iom_world_effects.specs.Read.{space_at, values_of, accesses_of}
-use Rattle.iom_world_effects.specs.Scenes.{IsSceneOf, HasFaithfulScene}
-use Rattle.iom_world_effects.specs.Invariant.{PartsInvariant, AreKnown, HasAsker}
+use Rattle.iom_world_effects.specs.Scenes.{IsSceneOf, HasSceneWith}
+use Rattle.iom_world_effects.specs.Invariant.{InvariantWith, AreKnown, HasAsker}
 use Rattle.iom_world_effects.specs.Traffic.{messages_in}
 use Rattle.iom_world_effects.proofs.InvariantLemmas.{still_unmarked}
 use Rattle.iom_world_effects.proofs.MessageScenes.{KeepsRest, carry_scene}
@@ -83,8 +84,8 @@ rest_kept old new keeps = record {
 }
 
 -- SO ALL STAYS TRUE, where the facts on copies do
-pub traffic_sound : (old new : Parts) (events : ℕ) → PartsInvariant old events → KeepsParts old new → AreKnown new → ((id : ℕ) → epoch_in new.devices id ≤ events)
-    → (HasFaithfulScene (values_of old) → HasFaithfulScene (values_of new)) → PartsInvariant new events
+pub traffic_sound : {walks left : List Walk} (old new : Parts) (events : ℕ) → InvariantWith walks old events → KeepsParts old new → AreKnown new → ((id : ℕ) → epoch_in new.devices id ≤ events)
+    → (HasSceneWith (values_of old) walks → HasSceneWith (values_of new) left) → InvariantWith left new events
 traffic_sound old new events invariants keeps known epochs scenes = record {
   ready = subst (IsReady new.driver new.memory) (sym keeps.iommu.registers)
       (subst (λ m. IsReady new.driver m (registers_of old.iommu)) (sym keeps.memory) (subst (λ (d : DriverState). IsReady d old.memory (registers_of old.iommu)) (sym keeps.driver) invariants.ready));
@@ -103,10 +104,10 @@ traffic_sound old new events invariants keeps known epochs scenes = record {
 }
 
 -- MESSAGES ALONE CHANGE: each that is under way then may be sent, or was under way before; questions are those of devices that are plugged in
-pub carried_sound : (old : Parts) (fabric : List OnLink) (events : ℕ) → PartsInvariant old events → All (HasAsker old.devices) fabric
+pub carried_sound : {walks : List Walk} (old : Parts) (fabric : List OnLink) (events : ℕ) → InvariantWith walks old events → All (HasAsker old.devices) fabric
     → ((scene : Scene) → IsSceneOf (values_of old) scene → IsFaithful scene → (message : AtsMessage) → Contains (messages_in fabric) message → MayBeSent scene message ⊎ Contains scene.messages message)
-    → PartsInvariant (record old { fabric = fabric }) events
-carried_sound old fabric events invariants askers may =
+    → InvariantWith walks (record old { fabric = fabric }) events
+carried_sound {walks = walks} old fabric events invariants askers may =
     let new : Parts = record old { fabric = fabric } in
     let keeps : KeepsParts old new = record { memory = refl; driver = refl; iommu = keeps_iommu old.iommu old.iommu refl; kinds = λ d. refl } in
     traffic_sound old new events invariants keeps
@@ -118,4 +119,4 @@ carried_sound old fabric events invariants askers may =
       trusted = invariants.known.trusted;
       askers = askers;
     })
-    invariants.epochs (carry_scene (values_of old) (values_of new) (messages_in fabric) (rest_kept old new keeps) refl may [])
+    invariants.epochs (carry_scene (values_of old) (values_of new) (messages_in fabric) (rest_kept old new keeps) refl may walks)

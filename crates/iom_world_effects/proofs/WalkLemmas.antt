@@ -71,7 +71,7 @@ FaultsBy (Second size) ledger id page kind cause = (cause ≡ guest_page_fault_o
 FaultsBy (Both size) ledger id page kind cause = (cause ≡ page_fault_of kind) ⊎ (cause ≡ guest_page_fault_of kind)
 
 -- the pair whose leaf a page has
-pair_of_leaf : (held : Option Pair) (frame : ℕ) (rights : Rights) → option_map leaf_for held ≡ Some record { frame = frame; rights = rights } → held ≡ Some (frame, rights)
+pub pair_of_leaf : (held : Option Pair) (frame : ℕ) (rights : Rights) → option_map leaf_for held ≡ Some record { frame = frame; rights = rights } → held ≡ Some (frame, rights)
 pair_of_leaf None frame rights same = cc
 pair_of_leaf (Some pair) frame rights same =
     let leaf : PageLeaf = record { frame = frame; rights = rights } in
@@ -80,12 +80,12 @@ pair_of_leaf (Some pair) frame rights same =
     let r : pair.1 ≡ rights = ap (λ (l : PageLeaf). l.rights) leaves in
     ◌∙◌ {b = Some (frame, pair.1)} (ap (λ (n : ℕ). Some (n, pair.1)) f) (ap (λ (x : Rights). Some (frame, x)) r)
 
-not_allowed : (b : Bool) → (b ≡ true → ⊥) → b ≡ false
+pub not_allowed : (b : Bool) → (b ≡ true → ⊥) → b ≡ false
 not_allowed true differs = absurd (differs refl)
 not_allowed false differs = refl
 
 -- what is told of a guest page fault has that cause
-reported_cause : (kind : AccessKind) (address : ℕ) (implicit : Bool) → (reported (guest_page_fault_of kind) address implicit).cause ≡ guest_page_fault_of kind
+pub reported_cause : (kind : AccessKind) (address : ℕ) (implicit : Bool) → (reported (guest_page_fault_of kind) address implicit).cause ≡ guest_page_fault_of kind
 reported_cause Read address implicit = refl
 reported_cause Write address implicit = refl
 
@@ -118,7 +118,7 @@ module _ (laws : WalkLaws) (size : Size) (memory : List (List ℕ)) (ledger : Le
     (leaves : (page : ℕ) → page < 2 ^ 52 → leaf_of (levels_of size) memory root page ≡ option_map leaf_for (held_in ledger id page))
     (low_pages : (page : ℕ) → page_limit_of size ≤ page → held_in ledger id page ≡ None)
     (inside : (page frame : ℕ) (rights : Rights) → held_in ledger id page ≡ Some (frame, rights) → frame < length memory) where
-  guest_mapped : (page : ℕ) → guest_leaf_of (levels_of size) memory root page ≡ option_map leaf_for (held_in ledger id page)
+  pub guest_mapped : (page : ℕ) → guest_leaf_of (levels_of size) memory root page ≡ option_map leaf_for (held_in ledger id page)
   guest_mapped =
       laws.guest_leaves size memory root (λ page. option_map leaf_for (held_in ledger id page)) tree leaves (λ page above. ap (option_map leaf_for) (low_pages page above))
 
@@ -130,7 +130,7 @@ module _ (laws : WalkLaws) (size : Size) (memory : List (List ℕ)) (ledger : Le
       (pair_of_leaf (held_in ledger id (address / 4096)) frame rights (sym (guest_mapped (address / 4096)) ∙ leaf.0), leaf.1)
 
   -- it allows reads too
-  leads_reads : (address : ℕ) (kind : AccessKind) (frame : ℕ) (rights : Rights) → LeadsTo (levels_of size) memory root address kind frame rights → allows rights Read ≡ true
+  pub leads_reads : (address : ℕ) (kind : AccessKind) (frame : ℕ) (rights : Rights) → LeadsTo (levels_of size) memory root address kind frame rights → allows rights Read ≡ true
   leads_reads address Read frame rights leads = (leads_held address Read frame rights leads).1
   leads_reads address Write frame rights leads =
       let walked : Walked = record { frame = frame; rights = rights; level = leaf_level (entries memory) root (second_path (levels_of size) address); guest_frames = replicate 4 None } in

@@ -1,6 +1,6 @@
 -- What the events of block devices do (virtio 1.2): a disk is put in, a queue is set, a step is taken, a status is told. Of a device's queue, its requests
 -- and the bytes of its disk a world knows nothing. So the access that a step wants, and all else that a step is, is the device's choice.
-use Rattle.std.specs.Prelude.{◌≡◌, ◌<◌, ◌^◌, ◌⊎◌, ℕ, Bool, true, false, List, Result, Ok, Err, Some, if◌then◌else◌, ⊤}
+use Rattle.std.specs.Prelude.{◌≡◌, ◌<◌, ◌^◌, ◌⊎◌, ℕ, Bool, true, false, List, Result, Ok, Err, Some, ⊤}
 use Rattle.iom_base.specs.declared.access.Access.{Access}
 use Rattle.iom_base.specs.Accesses.{page_of, MayWant}
 use Rattle.iom_coherence.specs.Attachments.{caches_translations}

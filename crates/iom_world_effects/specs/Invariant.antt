@@ -1,6 +1,6 @@
 -- What stays true between the parts of a world, whatever happens.
 -- For the facts that a world carries alone; no public contract cites these.
-use Rattle.std.specs.Prelude.{◌≡◌, ℕ, ◌^◌, ◌≤◌, ◌<◌, Bool, true, false, List, length, map, Some, slice_get, is_some, ⊤}
+use Rattle.std.specs.Prelude.{◌≡◌, ℕ, ◌^◌, ◌≤◌, ◌<◌, Bool, true, false, List, [], length, map, Some, slice_get, is_some, ⊤}
 use Rattle.std.specs.List.{All}
 use Rattle.std.specs.Option.{option_map}
 use Rattle.iom_device_dir.specs.declared.context.Context.{Context}
@@ -21,9 +21,10 @@ use Rattle.iom_registers.specs.declared.registers.Registers.{Registers}
 use Rattle.iom_registers.specs.Queues.{command_status}
 use Rattle.iom_device.specs.declared.device.Device.{Device}
 use Rattle.iom_device.specs.Caches.{device_with, kind_in, epoch_in, HaveTheirCaches}
+use Rattle.iom_walk_coherence.specs.Walks.{Walk}
 use Rattle.iom_world_effects.specs.Parts.{Parts}
 use Rattle.iom_world_effects.specs.Read.{values_of}
-use Rattle.iom_world_effects.specs.Scenes.{HasFaithfulScene}
+use Rattle.iom_world_effects.specs.Scenes.{HasSceneWith}
 
 -- the ids of the plugged devices, in the order of plugging: of the world's, of the driver's, and of the IOMMU's rows
 abbrev pub plugged_ids : List Device → List ℕ
@@ -71,8 +72,9 @@ pub record IsUnmarked (r : Registers) : Type 0 where
   pub legal : (command_status r).cmd_ill ≡ false
 
 -- The driver is started and ready; the IOMMU finds nothing wrong with its commands, and was built for this memory; they know the devices; no more accesses
--- were accepted, serials given and epochs begun than events came; cached contexts are true; and no copy outlives what it copies.
-pub record PartsInvariant (parts : Parts) (events : ℕ) : Type 0 where
+-- were accepted, serials given and epochs begun than events came; cached contexts are true; no copy outlives what it copies; and each of these walks stands where it
+-- may.
+pub record InvariantWith (walks : List Walk) (parts : Parts) (events : ℕ) : Type 0 where
   pub ready : IsReady parts.driver parts.memory (registers_of parts.iommu)
   pub started : parts.driver.started ≡ true
   pub unmarked : IsUnmarked (registers_of parts.iommu)
@@ -83,7 +85,11 @@ pub record PartsInvariant (parts : Parts) (events : ℕ) : Type 0 where
   pub serials : (slots_of parts.iommu).last ≤ events
   pub epochs : (id : ℕ) → epoch_in parts.devices id ≤ events
   pub contexts : ContextsAreTrue parts
-  pub copies : ∥ HasFaithfulScene (values_of parts) ∥₁
+  pub copies : ∥ HasSceneWith (values_of parts) walks ∥₁
+
+-- the same, where no walk is under way: each makes all its loads in one event
+abbrev pub PartsInvariant : Parts → ℕ → Type 0
+PartsInvariant = InvariantWith []
 
 -- a world of these parts is so
 abbrev pub WorldInvariant : List (List ℕ) → Iommu → Driver → List Device → List OnLink → ℕ → Type 0

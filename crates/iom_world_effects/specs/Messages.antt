@@ -1,6 +1,6 @@
 -- What is sent between the IOMMU and the devices with caches of their own (PCI Express Base Specification, chapter 10, "Address Translation Services"),
 -- and what becomes of it on the way.
-use Rattle.std.specs.Prelude.{◌≡◌, ◌⊎◌, ℕ, nat_lt, List, [], ◌∷◌, ◌++◌, length, remove, slice_get, Option, None, Some, is_some, if◌then◌else◌}
+use Rattle.std.specs.Prelude.{◌≡◌, ◌⊎◌, ℕ, nat_lt, List, [], ◌∷◌, ◌++◌, length, remove, slice_get, is_some, if◌then◌else◌}
 use Rattle.iom_command_queue.specs.declared.command.AtsRange.{AtsRange}
 use Rattle.iom_command_queue.specs.declared.command.AtsRange.TheVariants as named
 use Rattle.iom_command_queue.specs.declared.command.Command.{Command}

@@ -3,6 +3,7 @@
 use Rattle.std.proofs.Common.{◌≡◌, ◌^◌, ◌<◌, ◌≤◌, ◌∙◌, inl, inr, ℕ, Bool, true, false, is_some, List, get_or, Option, None, Some, refl, sym, ap, subst, arith, if◌then◌else◌}
 use Rattle.std.specs.Option.{option_map, option_map_or}
 use Rattle.std.proofs.lemmas.Bool.{false≢true}
+use Rattle.iom_walk_coherence.specs.Walks.{Walk}
 use Rattle.iom_base.specs.declared.access.Access.{Access}
 use Rattle.iom_base.specs.declared.access.AccessKind.{AccessKind}
 use Rattle.iom_base.specs.declared.access.AccessKind.TheVariants.{Read, Write}
@@ -34,8 +35,8 @@ use Rattle.iom_world_effects.specs.Parts.{Parts}
 use Rattle.iom_world_effects.specs.Read.{values_of}
 use Rattle.iom_device.specs.Calls.{reset_of, with_reset, with_block_reset}
 use Rattle.iom_world_effects.specs.Requests.{outcome_of_reply}
-use Rattle.iom_world_effects.specs.Scenes.{Values, HasFaithfulScene}
-use Rattle.iom_world_effects.specs.Invariant.{PartsInvariant}
+use Rattle.iom_world_effects.specs.Scenes.{Values, HasSceneWith}
+use Rattle.iom_world_effects.specs.Invariant.{InvariantWith}
 use Rattle.iom_world_effects.specs.ThroughCache.{DeviceAsksThroughCache, FindsFrame, cached_frame}
 use Rattle.iom_world_effects.specs.Traffic.{Traffic, traffic_of}
 use Rattle.iom_world_invariant.proofs.AskedLemmas.{keeps_through_cache_counted}
@@ -43,6 +44,7 @@ use Rattle.iom_world_effects.proofs.CacheSets.{shown_set}
 use Rattle.iom_world_effects.proofs.DiskPlaces.{kind_has, asker_has, epoch_has, ids_has, entries_has, own_ids_has, caches_has}
 use Rattle.iom_world_effects.proofs.DriverLemmas.{DriverInvariant}
 use Rattle.iom_world_invariant.proofs.MessageKeeps.{question_sound}
+use Rattle.iom_world_effects.proofs.WalksLeft.{AreLeft, given_up}
 use Rattle.iom_world_invariant.proofs.ResetKeeps.{found_there, reset_sound}
 
 -- A DISK is put into a device, or goes
@@ -60,8 +62,8 @@ values_has old id has =
     (same_function (kind_in (with_has_disk old.devices id has)) (kind_in old.devices) (kind_has old.devices id has))
     ∙ ap (λ (traffic : Traffic). record (values_of old) { traffic = traffic }) (traffic_has old.devices old.fabric (slots_of old.iommu) id has)
 
-pub disk_sound : (old : Parts) (events id : ℕ) (has : Bool) → PartsInvariant old events → PartsInvariant (record old { devices = with_has_disk old.devices id has }) events
-disk_sound old events id has invariants = record {
+pub disk_sound : {walks : List Walk} (old : Parts) (events id : ℕ) (has : Bool) → InvariantWith walks old events → InvariantWith walks (record old { devices = with_has_disk old.devices id has }) events
+disk_sound {walks = walks} old events id has invariants = record {
   ready = invariants.ready;
   started = invariants.started;
   unmarked = invariants.unmarked;
@@ -79,7 +81,7 @@ disk_sound old events id has invariants = record {
   serials = invariants.serials;
   epochs = λ d. subst (λ (n : ℕ). n ≤ events) (sym (epoch_has old.devices id has d)) (invariants.epochs d);
   contexts = invariants.contexts;
-  copies = subst (λ (values : Values). ∥ HasFaithfulScene values ∥₁) (sym (values_has old id has)) invariants.copies;
+  copies = subst (λ (values : Values). ∥ HasSceneWith values walks ∥₁) (sym (values_has old id has)) invariants.copies;
 }
 
 -- A BLOCK DEVICE IS RESET
@@ -92,18 +94,24 @@ block_there devices id is = by (device_with devices id) is
     by None none = absurd (false≢true none)
     by (Some device) some = refl
 
-block_reset_sound : (old : Parts) (events id : ℕ) → PartsInvariant old events → epoch_in old.devices id < events → PartsInvariant (record old { devices = with_block_reset old.devices id }) events
-block_reset_sound old events id invariants below = by (option_map_or is_block_device (kind_in old.devices id) false) refl
+-- the device is there, and is a block device
+abbrev pub IsOfBlocks : List Device → ℕ → Type 0
+IsOfBlocks devices id = option_map_or is_block_device (kind_in devices id) false ≡ true
+
+block_reset_sound : {walks left : List Walk} (old : Parts) (events id : ℕ) → InvariantWith walks old events → AreLeft (IsOfBlocks old.devices id) id left walks → epoch_in old.devices id < events
+    → InvariantWith left (record old { devices = with_block_reset old.devices id }) events
+block_reset_sound {left = left} old events id invariants are_left below = by (option_map_or is_block_device (kind_in old.devices id) false) refl
   where
-    by : (b : Bool) → option_map_or is_block_device (kind_in old.devices id) false ≡ b → PartsInvariant (record old { devices = if b then with_reset old.devices id else old.devices }) events
-    by true is = reset_sound old events id invariants below (block_there old.devices id is)
-    by false is = invariants
+    by : (b : Bool) → option_map_or is_block_device (kind_in old.devices id) false ≡ b → InvariantWith left (record old { devices = if b then with_reset old.devices id else old.devices }) events
+    by true is = reset_sound old events id invariants (are_left.1 is) below (block_there old.devices id is)
+    by false is = given_up old events are_left.0 invariants
 
 -- a device that leaves has no disk, and a block device is reset
-pub left_sound : (old : Parts) (events id : ℕ) → PartsInvariant old events → epoch_in old.devices id < events
-    → PartsInvariant (record old { devices = with_block_reset (with_has_disk old.devices id false) id }) events
-left_sound old events id invariants below =
+pub left_sound : {walks left : List Walk} (old : Parts) (events id : ℕ) → InvariantWith walks old events → AreLeft (IsOfBlocks old.devices id) id left walks → epoch_in old.devices id < events
+    → InvariantWith left (record old { devices = with_block_reset (with_has_disk old.devices id false) id }) events
+left_sound old events id invariants are_left below =
     block_reset_sound (record old { devices = with_has_disk old.devices id false }) events id (disk_sound old events id false invariants)
+    (are_left.0, λ is. are_left.1 (ap (λ (kind : Option DeviceKind). option_map_or is_block_device kind false) (sym (kind_has old.devices id false id)) ∙ is))
     (subst (λ (n : ℕ). n < events) (sym (epoch_has old.devices id false id)) below)
 
 -- what the machine knows of the devices has nothing of their caches
@@ -117,19 +125,20 @@ shown_block_reset known rows devices id = by (option_map_or is_block_device (kin
 
 -- THE CALLS
 
-pub keeps_medium : (disks : List ℕ) (old new : Parts) (events id disk : ℕ) (reply : Outcome) → PartsInvariant old events → InsertsMedium disks old id disk reply new → PartsInvariant new events
-keeps_medium disks old new events id disk reply invariants (inl unknown) = subst (λ parts. PartsInvariant parts events) (sym unknown.same) invariants
-keeps_medium disks old new events id disk reply invariants (inr (inl unable)) = subst (λ parts. PartsInvariant parts events) (sym unable.same) invariants
-keeps_medium disks old new events id disk reply invariants (inr (inr (device, is, inl puts))) = subst (λ parts. PartsInvariant parts events) (sym puts.2) (disk_sound old events id true invariants)
-keeps_medium disks old new events id disk reply invariants (inr (inr (device, is, inr refuses))) = subst (λ parts. PartsInvariant parts events) (sym refuses.2) invariants
+pub keeps_medium : {walks : List Walk} (disks : List ℕ) (old new : Parts) (events id disk : ℕ) (reply : Outcome) → InvariantWith walks old events → InsertsMedium disks old id disk reply new → InvariantWith walks new events
+keeps_medium {walks = walks} disks old new events id disk reply invariants (inl unknown) = subst (λ parts. InvariantWith walks parts events) (sym unknown.same) invariants
+keeps_medium {walks = walks} disks old new events id disk reply invariants (inr (inl unable)) = subst (λ parts. InvariantWith walks parts events) (sym unable.same) invariants
+keeps_medium {walks = walks} disks old new events id disk reply invariants (inr (inr (device, is, inl puts))) = subst (λ parts. InvariantWith walks parts events) (sym puts.2) (disk_sound old events id true invariants)
+keeps_medium {walks = walks} disks old new events id disk reply invariants (inr (inr (device, is, inr refuses))) = subst (λ parts. InvariantWith walks parts events) (sym refuses.2) invariants
 
-pub keeps_queue : (old new : Parts) (events id : ℕ) (layout : Layout) (reply : Outcome) → PartsInvariant old events → epoch_in old.devices id < events → SetsBlockQueue old id layout reply new
-    → PartsInvariant new events
-keeps_queue old new events id layout reply invariants below (inl unknown) = subst (λ parts. PartsInvariant parts events) (sym unknown.same) invariants
-keeps_queue old new events id layout reply invariants below (inr (inl unable)) = subst (λ parts. PartsInvariant parts events) (sym unable.same) invariants
-keeps_queue old new events id layout reply invariants below (inr (inr (able, inl sets))) =
-    subst (λ parts. PartsInvariant parts events) (sym sets.2) (reset_sound old events id invariants below (found_there old.devices id able.0 able.1))
-keeps_queue old new events id layout reply invariants below (inr (inr (able, inr refuses))) = subst (λ parts. PartsInvariant parts events) (sym refuses.2) invariants
+pub keeps_queue : {walks left : List Walk} (old new : Parts) (events id : ℕ) (layout : Layout) (reply : Outcome) → InvariantWith walks old events → epoch_in old.devices id < events
+    → SetsBlockQueue old id layout reply new → AreLeft (reply ≡ outcome.Done) id left walks → InvariantWith left new events
+keeps_queue {left = left} old new events id layout reply invariants below (inl unknown) are_left = subst (λ parts. InvariantWith left parts events) (sym unknown.same) (given_up old events are_left.0 invariants)
+keeps_queue {left = left} old new events id layout reply invariants below (inr (inl unable)) are_left = subst (λ parts. InvariantWith left parts events) (sym unable.same) (given_up old events are_left.0 invariants)
+keeps_queue {left = left} old new events id layout reply invariants below (inr (inr (able, inl sets))) are_left =
+    subst (λ parts. InvariantWith left parts events) (sym sets.2) (reset_sound old events id invariants (are_left.1 sets.1) below (found_there old.devices id able.0 able.1))
+keeps_queue {left = left} old new events id layout reply invariants below (inr (inr (able, inr refuses))) are_left =
+    subst (λ parts. InvariantWith left parts events) (sym refuses.2) (given_up old events are_left.0 invariants)
 
 -- AN ACCESS that misses changes nothing, and its device is there
 pub record Misses (old between : Parts) (id : ℕ) : Type 0 where
@@ -155,16 +164,16 @@ missed can old between id access (inr (inr (able, inr (inr finds)))) = by (cache
     by (Some frame) replied = absurd (never replied.reply replied.reply_is)
 
 -- and then the device asks
-pub asked_sound : (first : Outcome) (old between new : Parts) (events id : ℕ) (access : Access) (reply : Outcome) → PartsInvariant between events → access.address < 2 ^ 64
-    → DeviceAsksThroughCache is_block_device old id access first between → AsksIfMissed first between id access reply new → PartsInvariant new events
-asked_sound outcome.Miss old between new events id access reply invariants fits tries asks =
+pub asked_sound : {walks : List Walk} (first : Outcome) (old between new : Parts) (events id : ℕ) (access : Access) (reply : Outcome) → InvariantWith walks between events → access.address < 2 ^ 64
+    → DeviceAsksThroughCache is_block_device old id access first between → AsksIfMissed first between id access reply new → InvariantWith walks new events
+asked_sound {walks = walks} outcome.Miss old between new events id access reply invariants fits tries asks =
     let misses = missed is_block_device old between id access tries in
     let there : kind_in between.devices id ≡ Some misses.kind = ap (λ (parts : Parts). kind_in parts.devices id) misses.same ∙ misses.there in
-    subst (λ parts. PartsInvariant parts events) (sym asks.1) (question_sound between events id (page_of access) invariants (omega (arith, fits)) (found_there between.devices id misses.kind there))
-asked_sound _ old between new events id access reply invariants fits tries asks = subst (λ parts. PartsInvariant parts events) (sym asks.1) invariants
+    subst (λ parts. InvariantWith walks parts events) (sym asks.1) (question_sound between events id (page_of access) invariants (omega (arith, fits)) (found_there between.devices id misses.kind there))
+asked_sound {walks = walks} _ old between new events id access reply invariants fits tries asks = subst (λ parts. InvariantWith walks parts events) (sym asks.1) invariants
 
-pub keeps_through : LawsBelow → (driver : Driver) (old new : Parts) (events id : ℕ) (access : Access) (reply : Outcome) → PartsInvariant old events → DriverInvariant old.driver → old.driver ≡ state_of driver
-    → (flights_of old.iommu).so_far < events → access.address < 2 ^ 64 → GoesThroughCache old id access reply new → PartsInvariant new events
+pub keeps_through : {walks : List Walk} → LawsBelow → (driver : Driver) (old new : Parts) (events id : ℕ) (access : Access) (reply : Outcome) → InvariantWith walks old events → DriverInvariant old.driver → old.driver ≡ state_of driver
+    → (flights_of old.iommu).so_far < events → access.address < 2 ^ 64 → GoesThroughCache old id access reply new → InvariantWith walks new events
 keeps_through laws driver old new events id access reply invariants own is below fits goes =
     asked_sound goes.first old goes.between new events id access reply
     (keeps_through_cache_counted is_block_device laws driver old goes.between events id access goes.first invariants own is below goes.tries)

@@ -1,6 +1,7 @@
 -- What stays true of a world when an access in flight is made: its frame isn't reserved.
-use Rattle.std.proofs.Common.{◌≡◌, ◌<◌, ◌≤◌, ◌∙◌, IfSome, ℕ, false, is_some, List, length, Option, Some, None, slice_get, sym, ap, subst, []}
+use Rattle.std.proofs.Common.{◌≡◌, ◌<◌, ◌≤◌, ◌∙◌, IfSome, ℕ, false, is_some, List, length, Option, Some, None, slice_get, sym, ap, subst}
 use Rattle.std.proofs.lemmas.List.{length-set}
+use Rattle.iom_walk_coherence.specs.Walks.{Walk}
 use Rattle.iom_base.specs.declared.access.AcceptedAccess.{AcceptedAccess}
 use Rattle.iom_base.specs.declared.access.AccessKind.{AccessKind}
 use Rattle.iom_base.specs.declared.access.AccessKind.TheVariants.{Read, Write}
@@ -18,7 +19,7 @@ use Rattle.iom_table_frames.specs.Owners.{has_owner}
 use Rattle.iom_tlb.specs.Chosen.{ioatc}
 use Rattle.iom_world_effects.specs.Parts.{Parts}
 use Rattle.iom_world_effects.specs.Read.{values_of, accesses_of}
-use Rattle.iom_world_effects.specs.Invariant.{PartsInvariant, ContextsAreTrue, row_ids}
+use Rattle.iom_world_effects.specs.Invariant.{InvariantWith, ContextsAreTrue, row_ids}
 use Rattle.iom_world_effects.proofs.DriverLemmas.{DriverInvariant}
 use Rattle.iom_world_effects.proofs.PartsLemmas.{StaysReady}
 use Rattle.iom_world_effects.proofs.RowLemmas.{made_among, row_ids_kept}
@@ -40,13 +41,13 @@ performed_elsewhere Write memory new made n (bytes, there, is) apart =
     ap (λ m. slice_get m n) is ∙ get_set_other memory made.frame n (with_bytes bytes (offset_of made.access) made.access.bytes) apart
 
 -- the frame of the access that is made is nobody's
-pub made_free : (old : Parts) (events id : ℕ) (made : MadeAt) (memory : List (List ℕ)) (flights : Flights) → PartsInvariant old events
+pub made_free : {walks : List Walk} (old : Parts) (events id : ℕ) (made : MadeAt) (memory : List (List ℕ)) (flights : Flights) → InvariantWith walks old events
     → (is : IsMade old.memory (flights_of old.iommu) id made memory flights) → has_owner old.driver.owners made.frame ≡ false → slice_get old.driver.owners is.oldest.accepted.frame ≡ Some None
 made_free old events id made memory flights invariants is unreserved =
     unmarked old.driver.owners is.oldest.accepted.frame (subst (λ n. is.oldest.accepted.frame < n) invariants.ready.stand.size is.inside)
     (subst (λ (m : MadeAt). has_owner old.driver.owners m.frame ≡ false) is.reply unreserved)
 
-leaves_made : (old new : Parts) (events id : ℕ) (made : MadeAt) → PartsInvariant old events → IsMade old.memory (flights_of old.iommu) id made new.memory (flights_of new.iommu)
+pub leaves_made : {walks : List Walk} (old new : Parts) (events id : ℕ) (made : MadeAt) → InvariantWith walks old events → IsMade old.memory (flights_of old.iommu) id made new.memory (flights_of new.iommu)
     → CommitsOldest old.memory old.iommu id (Some made) new.memory new.iommu → has_owner old.driver.owners made.frame ≡ false → new.driver ≡ old.driver → new.devices ≡ old.devices → new.fabric ≡ old.fabric → Leaves old new
 leaves_made old new events id made invariants is call unreserved driver devices fabric =
     let free = made_free old events id made new.memory (flights_of new.iommu) invariants is unreserved in
@@ -63,7 +64,7 @@ leaves_made old new events id made invariants is call unreserved driver devices 
       fabric = fabric;
     }
 
-leaves_none : (old new : Parts) (id : ℕ) → CommitsOldest old.memory old.iommu id None new.memory new.iommu → new.driver ≡ old.driver → new.devices ≡ old.devices → new.fabric ≡ old.fabric → Leaves old new
+pub leaves_none : (old new : Parts) (id : ℕ) → CommitsOldest old.memory old.iommu id None new.memory new.iommu → new.driver ≡ old.driver → new.devices ≡ old.devices → new.fabric ≡ old.fabric → Leaves old new
 leaves_none old new id call driver devices fabric = record {
   size = ap (λ m. length m) call.makes.1;
   reserved = λ frame owner mark. ap (λ m. slice_get m frame) call.makes.1;
@@ -76,19 +77,19 @@ leaves_none old new id call driver devices fabric = record {
   fabric = fabric;
 }
 
-keeps_made : (old new : Parts) (events id : ℕ) (made : Option MadeAt) → PartsInvariant old events → DriverInvariant old.driver → StaysReady old.driver → Leaves old new
+keeps_made : {walks : List Walk} (old new : Parts) (events id : ℕ) (made : Option MadeAt) → InvariantWith walks old events → DriverInvariant old.driver → StaysReady old.driver → Leaves old new
     → CommitsOldest old.memory old.iommu id made new.memory new.iommu
-    → (flights_of new.iommu).so_far ≡ (flights_of old.iommu).so_far → AreAmong (accesses_of (flights_of new.iommu).rows) (accesses_of (flights_of old.iommu).rows) → PartsInvariant new events
-keeps_made old new events id made invariants own unchanged leaves call so_far among =
+    → (flights_of new.iommu).so_far ≡ (flights_of old.iommu).so_far → AreAmong (accesses_of (flights_of new.iommu).rows) (accesses_of (flights_of old.iommu).rows) → InvariantWith walks new events
+keeps_made {walks = walks} old new events id made invariants own unchanged leaves call so_far among =
     let contexts : contexts_of new.iommu ≡ contexts_of old.iommu = ap cached_contexts (ap (λ parts. parts.contexts) call.rest) in
     sound_from old new events invariants own leaves unchanged (subst (λ n. n ≤ events) (sym so_far) invariants.counted)
     (contexts_stay old new invariants.contexts contexts leaves.driver)
     (λ has. make_scene (values_of old) (values_of new) (grants_kept old new events invariants own leaves) (queue_kept old new events invariants own leaves (ap (λ parts. parts.fence_snapshot) call.rest))
-    so_far among (λ d there. ap (λ c. is_some (c d)) (sym contexts) ∙ there) (λ key translation at. ap (λ c. ioatc.content c key) (sym (ap (λ parts. parts.translations) call.rest)) ∙ at) [] has)
+    so_far among (λ d there. ap (λ c. is_some (c d)) (sym contexts) ∙ there) (λ key translation at. ap (λ c. ioatc.content c key) (sym (ap (λ parts. parts.translations) call.rest)) ∙ at) walks has)
 
 -- a commit keeps the facts, whatever is told of it
-pub keeps_oldest : (old new : Parts) (events id : ℕ) (made : Option MadeAt) → PartsInvariant old events → DriverInvariant old.driver → StaysReady old.driver
-    → CommitsOldest old.memory old.iommu id made new.memory new.iommu → IfSome made (λ it. has_owner old.driver.owners it.frame ≡ false) → new.driver ≡ old.driver → new.devices ≡ old.devices → new.fabric ≡ old.fabric → PartsInvariant new events
+pub keeps_oldest : {walks : List Walk} (old new : Parts) (events id : ℕ) (made : Option MadeAt) → InvariantWith walks old events → DriverInvariant old.driver → StaysReady old.driver
+    → CommitsOldest old.memory old.iommu id made new.memory new.iommu → IfSome made (λ it. has_owner old.driver.owners it.frame ≡ false) → new.driver ≡ old.driver → new.devices ≡ old.devices → new.fabric ≡ old.fabric → InvariantWith walks new events
 keeps_oldest old new events id None invariants own unchanged call unreserved driver devices fabric =
     keeps_made old new events id None invariants own unchanged (leaves_none old new id call driver devices fabric) call
     (ap (λ (f : Flights). f.so_far) call.makes.2)

@@ -1,7 +1,8 @@
 -- What a request leaves of the context cache: it keeps the context of an attached device alone, as the directory has it.
-use Rattle.std.proofs.Common.{zero, suc, ◌≡◌, ◌⊎◌, ◌∙◌, inl, inr, ℕ, true, is_some, Option, Some, None, Result, option_map, refl, sym, ap, subst, arith}
+use Rattle.std.proofs.Common.{zero, suc, ◌≡◌, ◌⊎◌, ◌∙◌, inl, inr, ℕ, true, is_some, Option, Some, None, Result, option_map, refl, sym, ap, subst, arith, List}
 use Rattle.std.proofs.lemmas.Bool.{false≢true}
 use Rattle.std.proofs.lemmas.Bool.Decides.{eqb_tells}
+use Rattle.iom_walk_coherence.specs.Walks.{Walk}
 use Rattle.iom_base.specs.declared.cause.Cause.{Cause}
 use Rattle.iom_device_dir.specs.declared.context.Context.{Context}
 use Rattle.iom_device_dir.specs.Contents.{Content, IsSameContent, KeepsOne}
@@ -15,7 +16,7 @@ use Rattle.iom_driver.specs.Layout.{IsLevels}
 use Rattle.iom_iommu.specs.Parts.{registers_of, contexts_of}
 use Rattle.iom_iommu.specs.Service.{KeepsContext, KeepsIn, KeepsLocated}
 use Rattle.iom_world_effects.specs.Parts.{Parts}
-use Rattle.iom_world_effects.specs.Invariant.{PartsInvariant, ContextsAreTrue}
+use Rattle.iom_world_effects.specs.Invariant.{InvariantWith, ContextsAreTrue}
 use Rattle.iom_world_effects.proofs.DriverLemmas.{DriverInvariant}
 use Rattle.iom_world_effects.proofs.ServedLemmas.{ServiceLaws, located, located_as}
 
@@ -38,7 +39,7 @@ by_attachment levels id (Attached stage) None old new keeps = inr (stage, refl, 
 by_attachment levels id (Quarantined ticket stage) None old new keeps = inl keeps
 by_attachment levels id (Leaving ticket stage) None old new keeps = inl keeps
 
-pub keeps_attached : ServiceLaws → (parts : Parts) (events : ℕ) → PartsInvariant parts events → DriverInvariant parts.driver → (id : ℕ) (new : Content ℕ Context)
+pub keeps_attached : {walks : List Walk} → ServiceLaws → (parts : Parts) (events : ℕ) → InvariantWith walks parts events → DriverInvariant parts.driver → (id : ℕ) (new : Content ℕ Context)
     → KeepsContext parts.memory (registers_of parts.iommu) (contexts_of parts.iommu) id new → KeepsAttached (attachment_by_id parts.driver.devices id) id (contexts_of parts.iommu) new
 keeps_attached laws parts events invariants own id new keeps =
     let names = invariants.ready.directory invariants.started in

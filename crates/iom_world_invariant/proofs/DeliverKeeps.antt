@@ -4,6 +4,7 @@ use Rattle.std.specs.List.{All}
 use Rattle.std.specs.Option.{option_map}
 use Rattle.std.proofs.lemmas.Bool.{false≢true, eqb-true, and_parts}
 use Rattle.std.proofs.lemmas.List.Elements.{All-contains, Contains-push_cases}
+use Rattle.iom_walk_coherence.specs.Walks.{Walk}
 use Rattle.iom_ats_cache.specs.Cache.{Cache, range_covers, outside, with_room, with_entry}
 use Rattle.iom_ats_cache.specs.Calls.{TakesAnswer}
 use Rattle.iom_ats_cache.specs.declared.entry.Entry.{Entry}
@@ -36,7 +37,7 @@ use Rattle.iom_device.specs.Calls.{Obeys}
 use Rattle.iom_world_effects.specs.Messages.{with_sent}
 use Rattle.iom_world_effects.specs.Parts.{Parts}
 use Rattle.iom_world_effects.specs.Read.{values_of}
-use Rattle.iom_world_effects.specs.Invariant.{PartsInvariant, AreKnown, HasAsker}
+use Rattle.iom_world_effects.specs.Invariant.{InvariantWith, AreKnown, HasAsker}
 use Rattle.iom_world_effects.specs.Traffic.{entry_copy, entries_by, entries_in, messages_in, extent_of_range, invalidation_by, invalidation_in_slot, traffic_of}
 use Rattle.iom_world_effects.proofs.CacheSets.{kind_set, asker_set, epoch_set, ids_set, own_ids_set, caches_set, same_set, entries_set, entries_there}
 use Rattle.iom_world_invariant.proofs.MessageKeeps.{left_among, there_at, askers_left, dropped_sound}
@@ -93,7 +94,7 @@ having_there devices id cache has = by (device_with devices id) has
     by (Some device) at = refl
 
 -- the devices where one has another cache are known as before
-known_set : (old : Parts) (events id : ℕ) (cache after : Cache) (fabric : List OnLink) → PartsInvariant old events → cache_of old.devices id ≡ Some cache
+known_set : {walks : List Walk} (old : Parts) (events id : ℕ) (cache after : Cache) (fabric : List OnLink) → InvariantWith walks old events → cache_of old.devices id ≡ Some cache
     → All (HasAsker (with_cache old.devices id (Some after))) fabric → AreKnown (record old { devices = with_cache old.devices id (Some after); fabric = fabric })
 known_set old events id cache after fabric invariants has askers = record {
   own_ids = own_ids_set old.devices id (Some after) invariants.known.own_ids;
@@ -109,7 +110,7 @@ askers_then : (devices : List Device) (id : ℕ) (cache : Option Cache) (fabric 
 askers_then devices id cache fabric askers = λ k d lt. asker_set devices id cache (get_or fabric k d) (askers k d lt)
 
 -- AN ANSWER IS KEPT
-module _ (old : Parts) (events place device epoch page frame : ℕ) (rights : Rights) (cache after : Cache) (invariants : PartsInvariant old events)
+module _ {walks : List Walk} (old : Parts) (events place device epoch page frame : ℕ) (rights : Rights) (cache after : Cache) (invariants : InvariantWith walks old events)
     (at : slice_get old.fabric place ≡ Some (record { device = device; message = sent.Answer epoch page (reply.Page frame rights) })) (has : cache_of old.devices device ≡ Some cache)
     (current : epoch ≡ cache.epoch)
     (kept : after ≡ record { epoch = cache.epoch; entries = with_entry cache.entries (record { page = page; frame = frame; rights = rights }) }) where
@@ -147,7 +148,7 @@ module _ (old : Parts) (events place device epoch page frame : ℕ) (rights : Ri
   keeps : KeepsParts old new
   keeps = record { memory = refl; driver = refl; iommu = keeps_iommu old.iommu old.iommu refl; kinds = kind_set old.devices device (Some after) }
 
-  pub kept_sound : PartsInvariant (record old { devices = with_cache old.devices device (Some after); fabric = remove old.fabric place }) events
+  pub kept_sound : InvariantWith walks (record old { devices = with_cache old.devices device (Some after); fabric = remove old.fabric place }) events
   kept_sound =
       traffic_sound old new events invariants keeps
       (known_set old events device cache after others invariants has (askers_then old.devices device (Some after) others (askers_left old.devices old.fabric place invariants.known.askers)))
@@ -156,21 +157,21 @@ module _ (old : Parts) (events place device epoch page frame : ℕ) (rights : Ri
       (ap (λ (es : ℕ → ℕ). record (traffic_of (with_cache old.devices device (Some after)) others (slots_of old.iommu)) { epoch_of = es })
       (same_function (epoch_in (with_cache old.devices device (Some after))) (epoch_in old.devices) same_epoch))
       (there_at old.fabric place (record { device = device; message = sent.Answer epoch page (reply.Page frame rights) }) (Answer epoch copy) at (contains_head (Answer epoch copy) []))
-      (current ∙ sym (ap epoch_of has)) one_more (λ x there. left_among old.fabric place x there) [])
+      (current ∙ sym (ap epoch_of has)) one_more (λ x there. left_among old.fabric place x there) walks)
 
 -- where the cache stays as it is, the message is merely gone
-unchanged : (old later : Parts) (events place device : ℕ) (after : Option Cache) → PartsInvariant old events → cache_of old.devices device ≡ after
-    → later ≡ record old { devices = with_cache old.devices device after; fabric = remove old.fabric place } → PartsInvariant later events
-unchanged old later events place device after invariants has rest =
-    subst (λ parts. PartsInvariant parts events)
+unchanged : {walks : List Walk} (old later : Parts) (events place device : ℕ) (after : Option Cache) → InvariantWith walks old events → cache_of old.devices device ≡ after
+    → later ≡ record old { devices = with_cache old.devices device after; fabric = remove old.fabric place } → InvariantWith walks later events
+unchanged {walks = walks} old later events place device after invariants has rest =
+    subst (λ parts. InvariantWith walks parts events)
     (sym (rest ∙ ap (λ (ds : List Device). record old { devices = ds; fabric = remove old.fabric place }) (same_set old.devices device after has)))
     (dropped_sound old events place invariants)
 
 -- AN ANSWER ARRIVES
-pub keeps_taken : (old new : Parts) (events place device epoch page : ℕ) (answer : Translation) (outcome : Outcome) → PartsInvariant old events
+pub keeps_taken : {walks : List Walk} (old new : Parts) (events place device epoch page : ℕ) (answer : Translation) (outcome : Outcome) → InvariantWith walks old events
     → slice_get old.fabric place ≡ Some (record { device = device; message = sent.Answer epoch page answer })
-    → TakesAnswered old device epoch page answer (remove old.fabric place) outcome new → PartsInvariant new events
-keeps_taken old new events place device epoch page answer outcome invariants at takes = by (cache_of old.devices device) refl takes.cache
+    → TakesAnswered old device epoch page answer (remove old.fabric place) outcome new → InvariantWith walks new events
+keeps_taken {walks = walks} old new events place device epoch page answer outcome invariants at takes = by (cache_of old.devices device) refl takes.cache
   where
     Leaves : Option Cache → Type 0
     Leaves after = new ≡ record old { devices = with_cache old.devices device after; fabric = remove old.fabric place }
@@ -180,15 +181,15 @@ keeps_taken old new events place device epoch page answer outcome invariants at 
 
     some : (cache kept : Cache) (taking : Taken) (answer : Translation) → cache_of old.devices device ≡ Some cache
         → slice_get old.fabric place ≡ Some (record { device = device; message = sent.Answer epoch page answer })
-        → TakesAnswer cache epoch page answer taking kept → Leaves (Some kept) → PartsInvariant new events
+        → TakesAnswer cache epoch page answer taking kept → Leaves (Some kept) → InvariantWith walks new events
     some cache kept taken.Stale answer has at takes_it rest = unchanged old new events place device (Some kept) invariants (has ∙ ap Some (sym takes_it.1)) rest
     some cache kept taken.Refused (reply.Refused cause) has at takes_it rest = unchanged old new events place device (Some kept) invariants (has ∙ ap Some (sym takes_it.1)) rest
     some cache kept taken.Refused (reply.Page frame rights) has at takes_it rest = absurd takes_it
     some cache kept taken.Kept (reply.Refused cause) has at takes_it rest = absurd takes_it
     some cache kept taken.Kept (reply.Page frame rights) has at takes_it rest =
-        subst (λ parts. PartsInvariant parts events) (sym rest) (kept_sound old events place device epoch page frame rights cache kept invariants at has takes_it.0 takes_it.1)
+        subst (λ parts. InvariantWith walks parts events) (sym rest) (kept_sound old events place device epoch page frame rights cache kept invariants at has takes_it.0 takes_it.1)
 
-    by : (found : Option Cache) → cache_of old.devices device ≡ found → TakesInto found epoch page answer outcome takes.after → PartsInvariant new events
+    by : (found : Option Cache) → cache_of old.devices device ≡ found → TakesInto found epoch page answer outcome takes.after → InvariantWith walks new events
     by None has into = unchanged old new events place device None invariants has (leaves None into.1)
     by (Some cache) has into = some cache into.1 into.0 answer has at into.2 (leaves (Some into.1) into.4)
 
@@ -205,7 +206,7 @@ and_false : (a b : Bool) → b ≡ false → (a && b) ≡ false
 and_false true b is = is
 and_false false b is = refl
 
-module _ (old : Parts) (events place device serial : ℕ) (range : Range) (cache after : Cache) (invariants : PartsInvariant old events)
+module _ {walks : List Walk} (old : Parts) (events place device serial : ℕ) (range : Range) (cache after : Cache) (invariants : InvariantWith walks old events)
     (at : slice_get old.fabric place ≡ Some (record { device = device; message = sent.InvReq serial range })) (has : cache_of old.devices device ≡ Some cache)
     (left : after ≡ record { epoch = cache.epoch + 1; entries = outside range cache.entries }) (below : epoch_in old.devices device < events) where
   abbrev gone : List OnLink
@@ -262,7 +263,7 @@ module _ (old : Parts) (events place device serial : ℕ) (range : Range) (cache
   keeps_obeyed : KeepsParts old obeyed
   keeps_obeyed = record { memory = refl; driver = refl; iommu = keeps_iommu old.iommu old.iommu refl; kinds = kind_set old.devices device (Some after) }
 
-  pub obeyed_sound : PartsInvariant (record old { devices = with_cache old.devices device (Some after); fabric = with_sent (remove old.fabric place) device (sent.InvDone serial) }) events
+  pub obeyed_sound : InvariantWith walks (record old { devices = with_cache old.devices device (Some after); fabric = with_sent (remove old.fabric place) device (sent.InvDone serial) }) events
   obeyed_sound =
       traffic_sound old obeyed events invariants keeps_obeyed
       (known_set old events device cache after fabric invariants has
@@ -279,21 +280,21 @@ module _ (old : Parts) (events place device serial : ℕ) (range : Range) (cache
         | inl new ↦ inl (the_one (InvalidateCompletion (invalidation_by serial device)) x new)
         | inr before ↦ inr (left_among old.fabric place x before)
       ])
-      [])
+      walks)
 
 -- A REQUEST TO INVALIDATE ARRIVES
-pub keeps_requested : (old new : Parts) (events place device serial : ℕ) (range : Range) (outcome : Outcome) → PartsInvariant old events → epoch_in old.devices device < events
+pub keeps_requested : {walks : List Walk} (old new : Parts) (events place device serial : ℕ) (range : Range) (outcome : Outcome) → InvariantWith walks old events → epoch_in old.devices device < events
     → slice_get old.fabric place ≡ Some (record { device = device; message = sent.InvReq serial range })
-    → ObeysRequest old device serial range (remove old.fabric place) outcome new → PartsInvariant new events
-keeps_requested old new events place device serial range outcome invariants below at obeys = by (cache_of old.devices device) obeys.done refl obeys.cache obeys.rest
+    → ObeysRequest old device serial range (remove old.fabric place) outcome new → InvariantWith walks new events
+keeps_requested {walks = walks} old new events place device serial range outcome invariants below at obeys = by (cache_of old.devices device) obeys.done refl obeys.cache obeys.rest
   where
     by : (found : Option Cache) (done : Option Message) → cache_of old.devices device ≡ found → Obeys found serial range done obeys.after
-        → new ≡ record old { devices = with_cache old.devices device obeys.after; fabric = with_completion_sent (remove old.fabric place) device done } → PartsInvariant new events
+        → new ≡ record old { devices = with_cache old.devices device obeys.after; fabric = with_completion_sent (remove old.fabric place) device done } → InvariantWith walks new events
     by None None has is rest = unchanged old new events place device obeys.after invariants (has ∙ sym is) rest
     by None (Some done) has is rest = absurd is
     by (Some cache) None has is rest = absurd is
     by (Some cache) (Some done) has (left, invalidates, is) rest =
-        subst (λ parts. PartsInvariant parts events)
+        subst (λ parts. InvariantWith walks parts events)
         (sym (rest ∙ ap (λ c. record old { devices = with_cache old.devices device c; fabric = with_sent (remove old.fabric place) device done }) is
         ∙ ap (λ m. record old { devices = with_cache old.devices device (Some left); fabric = with_sent (remove old.fabric place) device m }) invalidates.done))
         (obeyed_sound old events place device serial range cache left invariants at has invalidates.left below)
@@ -328,9 +329,9 @@ still_open slots serial device one there =
     (contains_map invalidation_in_slot slots from.0 (contains_from_filter (λ slot. not (is_request serial device slot)) slots from.0 from.1).0)
 
 -- the IOMMU where it is closed
-heard_sound : (old : Parts) (events place device serial : ℕ) → PartsInvariant old events → slice_get old.fabric place ≡ Some (record { device = device; message = sent.InvDone serial })
-    → PartsInvariant (record old { iommu = record old.iommu { slots = without_request (slots_of old.iommu) serial device }; fabric = remove old.fabric place }) events
-heard_sound old events place device serial invariants at =
+heard_sound : {walks : List Walk} (old : Parts) (events place device serial : ℕ) → InvariantWith walks old events → slice_get old.fabric place ≡ Some (record { device = device; message = sent.InvDone serial })
+    → InvariantWith walks (record old { iommu = record old.iommu { slots = without_request (slots_of old.iommu) serial device }; fabric = remove old.fabric place }) events
+heard_sound {walks = walks} old events place device serial invariants at =
     let gone = remove old.fabric place in
     let new : Parts = record old { iommu = record old.iommu { slots = without_request (slots_of old.iommu) serial device }; fabric = remove old.fabric place } in
     let keeps : KeepsParts old new = record {
@@ -354,12 +355,12 @@ heard_sound old events place device serial invariants at =
     (rest_kept old new keeps) refl
     (there_at old.fabric place (record { device = device; message = sent.InvDone serial }) (InvalidateCompletion (invalidation_by serial device)) at
     (contains_head (InvalidateCompletion (invalidation_by serial device)) []))
-    (λ x there. still_open slots serial device x there) (λ x there. closed_or slots serial device x there) (λ x there. left_among old.fabric place x there) [])
+    (λ x there. still_open slots serial device x there) (λ x there. closed_or slots serial device x there) (λ x there. left_among old.fabric place x there) walks)
 
-pub keeps_heard : (old new : Parts) (events place device serial : ℕ) (outcome : Outcome) → PartsInvariant old events
+pub keeps_heard : {walks : List Walk} (old new : Parts) (events place device serial : ℕ) (outcome : Outcome) → InvariantWith walks old events
     → slice_get old.fabric place ≡ Some (record { device = device; message = sent.InvDone serial })
-    → HearsCompletion old device serial (remove old.fabric place) outcome new → PartsInvariant new events
-keeps_heard old new events place device serial outcome invariants at hears =
-    subst (λ parts. PartsInvariant parts events)
+    → HearsCompletion old device serial (remove old.fabric place) outcome new → InvariantWith walks new events
+keeps_heard {walks = walks} old new events place device serial outcome invariants at hears =
+    subst (λ parts. InvariantWith walks parts events)
     (sym (parts_are new old.memory (record old.iommu { slots = without_request (slots_of old.iommu) serial device }) old.driver old.devices (remove old.fabric place) hears.memory hears.call.left hears.driver hears.devices hears.fabric))
     (heard_sound old events place device serial invariants at)

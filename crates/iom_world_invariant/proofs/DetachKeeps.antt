@@ -5,6 +5,7 @@ use Rattle.std.specs.Option.{option_map}
 use Rattle.std.proofs.Math.Logic.{∥∥₁_map}
 use Rattle.std.proofs.lemmas.Bool.{false≢true}
 use Rattle.std.proofs.lemmas.Bool.Decides.{eqb_tells}
+use Rattle.iom_walk_coherence.specs.Walks.{Walk}
 use Rattle.iom_command_queue.specs.declared.entry.QueueEntry.{QueueEntry}
 use Rattle.iom_command_queue.specs.declared.entry.QueueEntry.TheVariants as stands
 use Rattle.iom_coherence.specs.DriverCalls.{leave_commands}
@@ -39,9 +40,10 @@ use Rattle.iom_world_effects.specs.Devices.{shown_attachment}
 use Rattle.iom_world_effects.specs.Effect.{DetachesDevice}
 use Rattle.iom_world_effects.specs.Parts.{Parts}
 use Rattle.iom_world_effects.specs.Read.{space_in, space_at, values_of, accesses_of}
-use Rattle.iom_world_effects.specs.Invariant.{PartsInvariant, known_ids, row_ids}
+use Rattle.iom_world_effects.specs.Invariant.{InvariantWith, known_ids, row_ids}
 use Rattle.iom_world_effects.proofs.DeviceLemmas.{shown_set, trusted_set, ids_set, attachment_set, attachment_other}
-use Rattle.iom_world_invariant.proofs.BlockKeeps.{left_sound}
+use Rattle.iom_world_effects.proofs.WalksLeft.{AreLeft, given_up}
+use Rattle.iom_world_invariant.proofs.BlockKeeps.{IsOfBlocks, left_sound}
 use Rattle.iom_world_effects.proofs.CachedLemmas.{spaces_owned}
 use Rattle.iom_world_effects.proofs.QueuedLemmas.{queued_space}
 use Rattle.iom_world_invariant.proofs.DriverKeeps.{attached_is}
@@ -76,7 +78,7 @@ numbers_left d r id admitted =
     none_at (why_not_detach d r false id) 7 (nat_le 4294967295 (last_fence d)) NumbersUsedUp refl
     (admitted false ((λ is. absurd (false≢true is)), (λ has. absurd (has_none d r id admitted has))))
 
-module _ (old new : Parts) (events id ticket : ℕ) (invariants : PartsInvariant old events) (own : DriverInvariant old.driver) (ready : IsReady new.driver new.memory (registers_of new.iommu))
+module _ {walks : List Walk} (old new : Parts) (events id ticket : ℕ) (invariants : InvariantWith walks old events) (own : DriverInvariant old.driver) (ready : IsReady new.driver new.memory (registers_of new.iommu))
     (admitted : IsAdmitted old.driver (registers_of old.iommu) id) (queues : QueuesDetach mmio old.driver old.memory old.iommu id ticket new.driver new.memory new.iommu)
     (devices : new.devices ≡ old.devices) (fabric : new.fabric ≡ old.fabric) where
   rung : IsRung old.iommu new.iommu
@@ -141,7 +143,7 @@ module _ (old new : Parts) (events id ticket : ℕ) (invariants : PartsInvariant
         cached = rung_cached old new (invariants.ready.ring invariants.started).on rung devices fabric (ap (λ (d : DriverState). fence_of d) queues.driver) (spaces_owned old.driver.devices new.driver.devices owned_still);
       }
 
-  pub detached_sound : PartsInvariant new events
+  pub detached_sound : InvariantWith walks new events
   detached_sound =
       sound_from old new events invariants leaves (rung_leaves old new (invariants.ready.ring invariants.started).on rung) (ap (λ (d : DriverState). d.started) queues.driver) ready
       (same_known old new devices fabric (ap (λ (d : DriverState). known_ids d.devices) queues.driver ∙ ids_set old.driver.devices id (Leaving ticket queues.stage))
@@ -157,29 +159,34 @@ module _ (old new : Parts) (events id ticket : ℕ) (invariants : PartsInvariant
       ∙ ap (λ t. if id == d then shown.Leaving t queues.stage.mode queues.stage.ats else shown_attachment (attachment_by_id old.driver.devices d)) queues.next)
       (ungranted old.driver (registers_of old.iommu) id admitted)
       (λ h agrees. subst (λ (s : DriverState). Agrees s.ledger h) (sym queues.driver) agrees)
-      []))
+      walks))
 
 -- what the driver does keeps the facts, where the devices are the same
-keeps_called : (old new : Parts) (events id : ℕ) → PartsInvariant old events → DriverInvariant old.driver → IsReady new.driver new.memory (registers_of new.iommu)
+keeps_called : {walks : List Walk} (old new : Parts) (events id : ℕ) → InvariantWith walks old events → DriverInvariant old.driver → IsReady new.driver new.memory (registers_of new.iommu)
     → (answer : Result answers.Ticket Refusal) → AnswersDetach mmio old.driver old.memory old.iommu id answer new.driver new.memory new.iommu
-    → new.devices ≡ old.devices → new.fabric ≡ old.fabric → PartsInvariant new events
-keeps_called old new events id invariants own ready answer call devices fabric = by answer call.reply call.effect
+    → new.devices ≡ old.devices → new.fabric ≡ old.fabric → InvariantWith walks new events
+keeps_called {walks = walks} old new events id invariants own ready answer call devices fabric = by answer call.reply call.effect
   where
     by : (answer : Result answers.Ticket Refusal)
         → ((granted : Bool) → (IsTrue granted → HasGrants old.driver.ledger id) × (HasGrants old.driver.ledger id → IsTrue granted) → IsReplyToDetach old.driver (registers_of old.iommu) granted id answer)
-        → DetachEffect mmio old.driver old.memory old.iommu id answer new.driver new.memory new.iommu → PartsInvariant new events
+        → DetachEffect mmio old.driver old.memory old.iommu id answer new.driver new.memory new.iommu → InvariantWith walks new events
     by (Ok ticket) admitted queues = detached_sound old new events id ticket.0 invariants own ready admitted queues devices fabric
     by (Err why) refused (driver_stays, memory_stays, iommu_stays) = rw (driver_stays, memory_stays, iommu_stays, devices, fabric) invariants
 
--- and then its disk goes, and a block device is reset
-pub keeps_detached : (old new : Parts) (events id : ℕ) (reply : Outcome) → PartsInvariant old events → DriverInvariant old.driver → IsReady new.driver new.memory (registers_of new.iommu)
-    → epoch_in old.devices id < events → DetachesDevice old id reply new → PartsInvariant new events
-keeps_detached old new events id reply invariants own ready below detaches =
-    subst (λ (devices : List Device). PartsInvariant (record new { devices = devices }) events) (sym detaches.devices) (by detaches.answer)
+-- a block device is detached
+abbrev pub BlockDetaches : Result answers.Ticket Refusal → List Device → ℕ → Type 0
+BlockDetaches answer devices id = (ticket : answers.Ticket) × (answer ≡ Ok ticket) × IsOfBlocks devices id
+
+-- and then its disk goes, and a block device is reset, and its walks are given up
+pub keeps_detached : {walks left : List Walk} (old new : Parts) (events id : ℕ) (reply : Outcome) → InvariantWith walks old events → DriverInvariant old.driver
+    → IsReady new.driver new.memory (registers_of new.iommu) → epoch_in old.devices id < events
+    → (detaches : DetachesDevice old id reply new) → AreLeft (BlockDetaches detaches.answer old.devices id) id left walks → InvariantWith left new events
+keeps_detached {walks = walks} {left = left} old new events id reply invariants own ready below detaches are_left =
+    subst (λ (devices : List Device). InvariantWith left (record new { devices = devices }) events) (sym detaches.devices) (by detaches.answer refl)
   where
-    called : PartsInvariant (record new { devices = old.devices }) events
+    called : InvariantWith walks (record new { devices = old.devices }) events
     called = keeps_called old (record new { devices = old.devices }) events id invariants own ready detaches.answer detaches.call refl detaches.fabric
 
-    by : (answer : Result answers.Ticket Refusal) → PartsInvariant (record new { devices = devices_left answer old.devices id }) events
-    by (Ok ticket) = left_sound (record new { devices = old.devices }) events id called below
-    by (Err why) = called
+    by : (answer : Result answers.Ticket Refusal) → detaches.answer ≡ answer → InvariantWith left (record new { devices = devices_left answer old.devices id }) events
+    by (Ok ticket) is = left_sound (record new { devices = old.devices }) events id called (are_left.0, λ block. are_left.1 (ticket, is, block)) below
+    by (Err why) is = given_up (record new { devices = old.devices }) events are_left.0 called

@@ -4,6 +4,7 @@ use Rattle.std.specs.Option.{option_map}
 use Rattle.std.proofs.Math.Logic.{∥∥₁_map}
 use Rattle.std.proofs.lemmas.Bool.{false≢true, leb-false}
 use Rattle.std.proofs.lemmas.Bool.Decides.{eqb_tells}
+use Rattle.iom_walk_coherence.specs.Walks.{Walk}
 use Rattle.iom_base.specs.declared.grant_rights.GrantRights.{GrantRights}
 use Rattle.iom_base.specs.declared.mode.Mode.{Mode}
 use Rattle.iom_base.specs.declared.owner.Owner.{Owner}
@@ -44,7 +45,7 @@ use Rattle.iom_world_effects.specs.Effect.{AttachesDevice, GrantsPage, PollsTick
 use Rattle.iom_world_effects.specs.Parts.{Parts}
 use Rattle.iom_tlb.specs.declared.space.Space.{Space}
 use Rattle.iom_world_effects.specs.Read.{space_in, space_at, values_of, accesses_of}
-use Rattle.iom_world_effects.specs.Invariant.{PartsInvariant, ContextsAreTrue, known_ids, row_ids}
+use Rattle.iom_world_effects.specs.Invariant.{InvariantWith, ContextsAreTrue, known_ids, row_ids}
 use Rattle.iom_world_effects.proofs.CachedLemmas.{same_cached, spaces_same, none_spaced}
 use Rattle.iom_world_effects.proofs.DeviceLemmas.{shown_set, trusted_set, ids_set, attachment_other, owns_nothing}
 use Rattle.iom_world_effects.proofs.DriverLemmas.{DriverInvariant}
@@ -156,7 +157,7 @@ root_keeps d memory id mode ats d' memory' size range admitted stands takes f sy
     (among_before f takes.pages roots (not_taken f system))
     ∙ bytes_stay f taken memory (not_taken f system)
 
-module _ (old new : Parts) (events id : ℕ) (invariants : PartsInvariant old events) (own : DriverInvariant old.driver) (ats : Bool)
+module _ {walks : List Walk} (old new : Parts) (events id : ℕ) (invariants : InvariantWith walks old events) (own : DriverInvariant old.driver) (ats : Bool)
     (admitted : NoneApplies (why_not_attach old.driver id ats)) (mode : Mode) (takes : TakesRoot old.driver old.memory id mode ats new.driver new.memory) where
   pub attach_keeps_ring : slice_get new.memory (command_frame (length old.memory)) ≡ slice_get old.memory (command_frame (length old.memory))
   attach_keeps_ring =
@@ -170,7 +171,7 @@ module _ (old new : Parts) (events id : ℕ) (invariants : PartsInvariant old ev
       root_keeps old.driver old.memory id mode ats new.driver new.memory invariants.ready.stand.size own.sizes.in_range admitted stands takes
       (completion_frame (length old.memory)) (fixed_frames old events invariants own).completion (λ g page same. (stands.own g page).no_completion (sym same))
 
-module _ (old new : Parts) (events id : ℕ) (invariants : PartsInvariant old events) (own : DriverInvariant old.driver) (ready : IsReady new.driver new.memory (registers_of new.iommu))
+module _ {walks : List Walk} (old new : Parts) (events id : ℕ) (invariants : InvariantWith walks old events) (own : DriverInvariant old.driver) (ready : IsReady new.driver new.memory (registers_of new.iommu))
     (ats : Bool) (admitted : NoneApplies (why_not_attach old.driver id ats)) (mode : Mode) (takes : TakesRoot old.driver old.memory id mode ats new.driver new.memory)
     (iommu : new.iommu ≡ old.iommu) (devices : new.devices ≡ old.devices) (fabric : new.fabric ≡ old.fabric) where
   leaves_attached : LeavesWord old new
@@ -234,7 +235,7 @@ module _ (old new : Parts) (events id : ℕ) (invariants : PartsInvariant old ev
       none_some : ◌≡◌ {A = Option Context} None (Some context) → ⊥
       none_some same = cc
 
-  pub attached_sound : PartsInvariant new events
+  pub attached_sound : InvariantWith walks new events
   attached_sound =
       sound_from old new events invariants leaves_attached (same_iommu old new iommu) (ap (λ (d : DriverState). d.started) takes.driver) ready
       (same_known old new devices fabric (ap (λ (d : DriverState). known_ids d.devices) takes.driver ∙ ids_set old.driver.devices id (Attached takes.stage))
@@ -242,13 +243,13 @@ module _ (old new : Parts) (events id : ℕ) (invariants : PartsInvariant old ev
       (same_epochs old new events invariants devices)
       (subst (λ (d : DriverState). d.given < 2 ^ 32) (sym takes.driver) invariants.small)
       contexts_attached
-      (∥∥₁_map invariants.copies (attach_scene (values_of old) (values_of new) id mode ats attaches_detached []))
+      (∥∥₁_map invariants.copies (attach_scene (values_of old) (values_of new) id mode ats attaches_detached walks))
 
-pub keeps_attached : (old new : Parts) (events id : ℕ) (mode : Mode) (ats : Bool) (reply : Outcome) → PartsInvariant old events → DriverInvariant old.driver → IsReady new.driver new.memory (registers_of new.iommu)
-    → AttachesDevice old id mode ats reply new → PartsInvariant new events
-keeps_attached old new events id mode ats reply invariants own ready attaches = by attaches.answer attaches.call
+pub keeps_attached : {walks : List Walk} (old new : Parts) (events id : ℕ) (mode : Mode) (ats : Bool) (reply : Outcome) → InvariantWith walks old events → DriverInvariant old.driver → IsReady new.driver new.memory (registers_of new.iommu)
+    → AttachesDevice old id mode ats reply new → InvariantWith walks new events
+keeps_attached {walks = walks} old new events id mode ats reply invariants own ready attaches = by attaches.answer attaches.call
   where
-    by : (answer : Result (Unit {0}) Refusal) → AnswersAttach old.driver old.memory id mode ats answer new.driver new.memory → PartsInvariant new events
+    by : (answer : Result (Unit {0}) Refusal) → AnswersAttach old.driver old.memory id mode ats answer new.driver new.memory → InvariantWith walks new events
     by (Ok done) (admitted, takes) = attached_sound old new events id invariants own ready ats admitted mode takes attaches.iommu attaches.devices attaches.fabric
     by (Err why) (refused, driver_stays, memory_stays) = rw (memory_stays, attaches.iommu, driver_stays, attaches.devices, attaches.fabric) invariants
 
@@ -271,7 +272,7 @@ tables_keep_system d memory id page frame rights d' memory' size takes n system 
     let both : ◌≡◌ {A = Option (Option Owner)} (Some (Some System)) (Some (Some (OneDevice id))) =
     sym system ∙ sym (mark_stays (OneDevice id) n takes.tables d.owners apart) ∙ sym (ap (λ (e : DriverState). slice_get e.owners n) takes.driver) ∙ now in cc)
 
-module _ (old new : Parts) (events id page frame : ℕ) (rights : GrantRights) (invariants : PartsInvariant old events) (own : DriverInvariant old.driver)
+module _ {walks : List Walk} (old new : Parts) (events id page frame : ℕ) (rights : GrantRights) (invariants : InvariantWith walks old events) (own : DriverInvariant old.driver)
     (ready : IsReady new.driver new.memory (registers_of new.iommu)) (admitted : NoneApplies (why_not_grant old.driver id page frame))
     (takes : TakesTables old.driver old.memory id page frame rights new.driver new.memory) (iommu : new.iommu ≡ old.iommu) (devices : new.devices ≡ old.devices) (fabric : new.fabric ≡ old.fabric) where
   grant_keeps_system : (n : ℕ) → slice_get old.driver.owners n ≡ Some (Some System) → slice_get new.memory n ≡ slice_get old.memory n
@@ -307,7 +308,7 @@ module _ (old new : Parts) (events id page frame : ℕ) (rights : GrantRights) (
         cached = same_cached old new iommu devices fabric (ap (λ (d : DriverState). fence_of d) takes.driver) (spaces_same old.driver.devices new.driver.devices (ap (λ (d : DriverState). d.devices) takes.driver));
       }
 
-  pub granted_sound : PartsInvariant new events
+  pub granted_sound : InvariantWith walks new events
   granted_sound =
       sound_from old new events invariants leaves_granted (same_iommu old new iommu) (ap (λ (d : DriverState). d.started) takes.driver) ready
       (same_known old new devices fabric (ap (λ (d : DriverState). known_ids d.devices) takes.driver) (λ d. ap (λ (s : DriverState). has_trusted_cache s.devices d) takes.driver)
@@ -316,12 +317,12 @@ module _ (old new : Parts) (events id page frame : ℕ) (rights : GrantRights) (
       (subst (λ n. n < 2 ^ 32) (sym (ap (λ (d : DriverState). d.given) takes.driver)) invariants.small)
       (λ other context cached.
       ap (λ (s : DriverState). option_map context_for (owned_stages_of s.devices other)) takes.driver ∙ invariants.contexts other context (ap (λ i. contexts_of i other) (sym iommu) ∙ cached))
-      (∥∥₁_map invariants.copies (grant_scene (values_of old) (values_of new) id page frame (rights_of rights) grants_one []))
+      (∥∥₁_map invariants.copies (grant_scene (values_of old) (values_of new) id page frame (rights_of rights) grants_one walks))
 
 -- nothing changes but what room the driver's ledger has
-pub roomy_sound : (old new : Parts) (events : ℕ) → PartsInvariant old events → IsReady new.driver new.memory (registers_of new.iommu) → IsSame old.driver new.driver
-    → new.memory ≡ old.memory → new.iommu ≡ old.iommu → new.devices ≡ old.devices → new.fabric ≡ old.fabric → PartsInvariant new events
-roomy_sound old new events invariants ready same memory iommu devices fabric =
+pub roomy_sound : {walks : List Walk} (old new : Parts) (events : ℕ) → InvariantWith walks old events → IsReady new.driver new.memory (registers_of new.iommu) → IsSame old.driver new.driver
+    → new.memory ≡ old.memory → new.iommu ≡ old.iommu → new.devices ≡ old.devices → new.fabric ≡ old.fabric → InvariantWith walks new events
+roomy_sound {walks = walks} old new events invariants ready same memory iommu devices fabric =
     let size : length new.memory ≡ length old.memory = ap (λ m. length m) memory in
     let word : slice_get new.memory (completion_frame (length old.memory)) ≡ slice_get old.memory (completion_frame (length old.memory)) = ap (λ m. slice_get m (completion_frame (length old.memory))) memory in
     let alike : AreSameValues (values_of old) (values_of new) = record {
@@ -346,16 +347,16 @@ roomy_sound old new events invariants ready same memory iommu devices fabric =
     (subst (λ n. n < 2 ^ 32) (sym (ap (λ (d : DriverState). d.given) same.rest)) invariants.small)
     (λ other context cached.
     ap (λ (s : DriverState). option_map context_for (owned_stages_of s.devices other)) same.rest ∙ invariants.contexts other context (ap (λ i. contexts_of i other) (sym iommu) ∙ cached))
-    (∥∥₁_map invariants.copies (same_scene (values_of old) (values_of new) alike []))
+    (∥∥₁_map invariants.copies (same_scene (values_of old) (values_of new) alike walks))
 
-pub keeps_granted : (old new : Parts) (events id page frame : ℕ) (rights : GrantRights) (reply : Outcome) → PartsInvariant old events → DriverInvariant old.driver
-    → IsReady new.driver new.memory (registers_of new.iommu) → GrantsPage old id page frame rights reply new → PartsInvariant new events
-keeps_granted old new events id page frame rights reply invariants own ready grants = by grants.answer grants.call
+pub keeps_granted : {walks : List Walk} (old new : Parts) (events id page frame : ℕ) (rights : GrantRights) (reply : Outcome) → InvariantWith walks old events → DriverInvariant old.driver
+    → IsReady new.driver new.memory (registers_of new.iommu) → GrantsPage old id page frame rights reply new → InvariantWith walks new events
+keeps_granted {walks = walks} old new events id page frame rights reply invariants own ready grants = by grants.answer grants.call
   where
-    by : (answer : Result (Unit {0}) Refusal) → AnswersGrant old.driver old.memory id page frame rights answer new.driver new.memory → PartsInvariant new events
+    by : (answer : Result (Unit {0}) Refusal) → AnswersGrant old.driver old.memory id page frame rights answer new.driver new.memory → InvariantWith walks new events
     by (Ok done) (admitted, takes) = granted_sound old new events id page frame rights invariants own ready admitted takes grants.iommu grants.devices grants.fabric
     by (Err why) (refused, same, memory_stays) = roomy_sound old new events invariants ready same memory_stays grants.iommu grants.devices grants.fabric
 
-pub keeps_polled : (old new : Parts) (events : ℕ) (reply : Outcome) → PartsInvariant old events → DriverInvariant old.driver → IsReady new.driver new.memory (registers_of new.iommu)
-    → PollsTickets old reply new → PartsInvariant new events
+pub keeps_polled : {walks : List Walk} (old new : Parts) (events : ℕ) (reply : Outcome) → InvariantWith walks old events → DriverInvariant old.driver → IsReady new.driver new.memory (registers_of new.iommu)
+    → PollsTickets old reply new → InvariantWith walks new events
 keeps_polled = polling.keeps_polled

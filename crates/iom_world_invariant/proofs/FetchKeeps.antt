@@ -5,6 +5,7 @@ use Rattle.std.proofs.Math.Logic.{∥∥₁_map}
 use Rattle.std.proofs.lemmas.Bool.{false≢true, and_parts, eqb-true, eq-eqb, leb-true, le-leb}
 use Rattle.std.proofs.lemmas.Bool.Decides.{eqb_tells}
 use Rattle.std.proofs.lemmas.Grind.{not_there}
+use Rattle.iom_walk_coherence.specs.Walks.{Walk}
 use Rattle.iom_command_queue.specs.OpenSlots.{OpenSlots}
 use Rattle.iom_command_queue.specs.declared.command.Command.{Command as Commanded}
 use Rattle.iom_command_queue.specs.declared.command.Command.TheVariants.{IotinvalVma, IotinvalGvma, IofenceC, IodirInvalDdt, AtsInval}
@@ -50,13 +51,13 @@ use Rattle.iom_tlb.specs.Covers.{are_covering}
 use Rattle.iom_tlb.specs.Invalidations.{covers_of}
 use Rattle.iom_tlb.specs.declared.space.Space.{Space}
 use Rattle.iom_world_effects.specs.Read.{space_at, values_of, accesses_of}
-use Rattle.iom_world_effects.specs.Scenes.{HasFaithfulScene}
-use Rattle.iom_world_effects.specs.Invariant.{PartsInvariant, IsUnmarked, row_ids, HasAsker}
+use Rattle.iom_world_effects.specs.Scenes.{HasSceneWith}
+use Rattle.iom_world_effects.specs.Invariant.{InvariantWith, IsUnmarked, row_ids, HasAsker}
 use Rattle.iom_world_effects.proofs.DriverLemmas.{DriverInvariant}
 use Rattle.iom_world_effects.proofs.PartsLemmas.{parts_are, StaysReady}
 use Rattle.iom_world_effects.proofs.QueuedLemmas.{queued_first}
 use Rattle.iom_world_effects.proofs.RowLemmas.{drained_after}
-use Rattle.iom_world_effects.proofs.SceneSteps.{KeepsGrants, FirstEffect, CountsAtHead, done_after, CachedAfter, TranslationsAfter, TrafficAfter, DoneIfFence, ClosedIfFence, no_walks_after, fetch_scene, count_scene, scene_uncounted}
+use Rattle.iom_world_effects.proofs.SceneSteps.{KeepsGrants, FirstEffect, CountsAtHead, done_after, CachedAfter, TranslationsAfter, TrafficAfter, DoneIfFence, ClosedIfFence, WalksAfter, no_walks_after, fetch_scene, count_scene, scene_uncounted}
 use Rattle.std.proofs.lemmas.List.{map-append}
 use Rattle.iom_fabric.specs.declared.fabric.OnLink.{OnLink}
 use Rattle.iom_world_effects.specs.Messages.{range_of, with_fetched}
@@ -142,14 +143,14 @@ first_there [] x at = cc
 first_there (y ∷ ys) x at = let same : y ≡ x = cc in (ys, ap (λ z. z ∷ ys) same)
 
 -- what waits in a sound world is the driver's
-module _ (old : Parts) (events : ℕ) (invariants : PartsInvariant old events) where
+module _ {walks : List Walk} (old : Parts) (events : ℕ) (invariants : InvariantWith walks old events) where
   abbrev place : ℕ
   place = completion_address (length old.memory)
 
   abbrev done : ℕ
   done = completed_in old.memory
 
-  in_scene : (entry : QueueEntry) (rest : List QueueEntry) → commands_in old.memory (registers_of old.iommu) ≡ entry ∷ rest → HasFaithfulScene (values_of old)
+  in_scene : (entry : QueueEntry) (rest : List QueueEntry) → commands_in old.memory (registers_of old.iommu) ≡ entry ∷ rest → HasSceneWith (values_of old) walks
       → is_ours (completion_address (length old.memory)) (completed_in old.memory) (last_fence old.driver) entry ≡ true
   in_scene entry rest at (scene, shows, facts) =
       let first = queued_first place (space_at old.driver.devices) entry rest scene.waiting (subst (λ l. AreQueuedAs place (space_at old.driver.devices) l scene.waiting) at shows.waiting) in
@@ -341,7 +342,7 @@ module _ (old new : Parts) (devices : new.devices ≡ old.devices) where
   }
 
 -- where commands are taken no fence has timed out
-pub goes_on : (old : Parts) (events : ℕ) → PartsInvariant old events → is_processing_commands (registers_of old.iommu) ≡ true → (command_status (registers_of old.iommu)).cmd_to ≡ false
+pub goes_on : {walks : List Walk} (old : Parts) (events : ℕ) → InvariantWith walks old events → is_processing_commands (registers_of old.iommu) ≡ true → (command_status (registers_of old.iommu)).cmd_to ≡ false
 goes_on old events invariants on = not_true (command_status (registers_of old.iommu)).cmd_to (sym (processes old events invariants) ∙ on)
   where
     not_true : (b : Bool) → not b ≡ true → b ≡ false
@@ -365,7 +366,7 @@ timeout_kept r s command is = ap (λ (q : Registers). (command_status q).cmd_to)
     by false = refl
 
 -- processing doesn't stop where it goes on
-pub never_stops : (old : Parts) (events : ℕ) (next : Iommu) → PartsInvariant old events → 64 ≤ length old.memory → StopsFetching true old.memory old.iommu next → ⊥
+pub never_stops : {walks : List Walk} (old : Parts) (events : ℕ) (next : Iommu) → InvariantWith walks old events → 64 ≤ length old.memory → StopsFetching true old.memory old.iommu next → ⊥
 never_stops old events next invariants many stops = by (head_entry old.memory (registers_of old.iommu)) refl stops
   where
     by : (entry : Option QueueEntry) → head_entry old.memory (registers_of old.iommu) ≡ entry → StopsAtEntry old.memory entry old.iommu next → ⊥
@@ -376,7 +377,7 @@ never_stops old events next invariants many stops = by (head_entry old.memory (r
     by (Some Outside) at stopped = false≢true (head_ours old events invariants Outside at)
 
 -- no question is sent by it
-askers_fetched : (old : Parts) (events : ℕ) → PartsInvariant old events → (command : Commanded) (last : ℕ) (fabric : List OnLink)
+askers_fetched : {walks : List Walk} (old : Parts) (events : ℕ) → InvariantWith walks old events → (command : Commanded) (last : ℕ) (fabric : List OnLink)
     → fabric ≡ with_fetched (Did command) last old.fabric → All (HasAsker old.devices) fabric
 askers_fetched old events invariants (IotinvalVma gscid pscid page) last fabric is = rw is invariants.known.askers
 askers_fetched old events invariants (IotinvalGvma gscid page) last fabric is = rw is invariants.known.askers
@@ -385,11 +386,22 @@ askers_fetched old events invariants (IodirInvalDdt device) last fabric is = rw 
 askers_fetched old events invariants (AtsInval device range) last fabric is =
     rw is (askers_sent old.devices old.fabric device (sent.InvReq last (range_of range)) invariants.known.askers tt)
 
+-- and none of the reserved frames changes but that of the completion word
+pub keeps_reserved : {walks : List Walk} (old new : Parts) (events : ℕ) (command : Commanded) → InvariantWith walks old events → DriverInvariant old.driver
+    → FetchesByAnswer old.memory old.iommu (Did command) new.memory new.iommu → KeepsReserved old.driver old.memory new.memory
+keeps_reserved old new events command invariants own fetches =
+    let next = head_next old events invariants command fetches.1 in
+    let frames = leaves_frames old.memory new.memory old.iommu new.iommu command fetches in
+    record {
+      size = frames.1;
+      bytes = λ frame owner mark other. frames.0 frame (λ at. other (stored_there (length old.memory) (completed_in old.memory) (last_fence old.driver) command frame next at));
+    }
+
 -- a command is done
-keeps_done : (old new : Parts) (events : ℕ) (command : Commanded) → PartsInvariant old events → DriverInvariant old.driver → StaysReady old.driver
+keeps_done : {walks still : List Walk} (old new : Parts) (events : ℕ) (command : Commanded) → WalksAfter command walks still → InvariantWith walks old events → DriverInvariant old.driver → StaysReady old.driver
     → (slots_of old.iommu).last < events → FetchesByAnswer old.memory old.iommu (Did command) new.memory new.iommu → new.driver ≡ old.driver → new.devices ≡ old.devices
-    → new.fabric ≡ with_fetched (Did command) (slots_of new.iommu).last old.fabric → PartsInvariant new events
-keeps_done old new events command invariants own unchanged below fetches driver devices fabric =
+    → new.fabric ≡ with_fetched (Did command) (slots_of new.iommu).last old.fabric → InvariantWith still new events
+keeps_done {walks = walks} {still = still} old new events command walks_after invariants own unchanged below fetches driver devices fabric =
     let r = registers_of old.iommu in
     let size : length old.memory ≡ length old.driver.owners = invariants.ready.stand.size in
     let many : 64 ≤ length old.memory = let m = own.sizes.size.0 in omega (arith, size, m) in
@@ -410,10 +422,7 @@ keeps_done old new events command invariants own unchanged below fetches driver 
     let after : completed_in new.memory ≡ number_after done command =
     ap completed_in fetches.4 ∙ completed_after old.memory done given command many small next (ap (λ m. length m) (sym fetches.4) ∙ frames.1) in
     let kept = ring_kept r command address done given next in
-    let keeps : KeepsReserved old.driver old.memory new.memory = record {
-      size = frames.1;
-      bytes = λ frame owner mark other. frames.0 frame (λ at. other (stored_there (length old.memory) done given command frame next at));
-    } in
+    let keeps : KeepsReserved old.driver old.memory new.memory = keeps_reserved old new events command invariants own fetches in
     let more : done ≤ number_after done command = more_done address done given done command refl next in
     let grants : KeepsGrants (values_of old) (values_of new) = record {
       ledger = ap (λ (d : DriverState). d.ledger) driver;
@@ -459,11 +468,11 @@ keeps_done old new events command invariants own unchanged below fetches driver 
       small = rw driver invariants.small;
       counted = subst (λ (f : Flights). f.so_far ≤ events) (sym left.flights) invariants.counted;
       contexts = λ id context at. rw driver (invariants.contexts id context (cached_before command (contexts_of old.iommu) (contexts_of new.iommu) left.contexts id context at));
-      copies = ∥∥₁_map invariants.copies (fetch_scene (values_of old) (values_of new) command effect [] [] (no_walks_after command));
+      copies = ∥∥₁_map invariants.copies (fetch_scene (values_of old) (values_of new) command effect walks still walks_after);
     }
 
 -- whether a fence waits for devices is no matter
-keeps_flag : (parts : Parts) (events : ℕ) (waits : Bool) → PartsInvariant parts events → PartsInvariant (record parts { iommu = record parts.iommu { fence_waits = waits } }) events
+keeps_flag : {walks : List Walk} (parts : Parts) (events : ℕ) (waits : Bool) → InvariantWith walks parts events → InvariantWith walks (record parts { iommu = record parts.iommu { fence_waits = waits } }) events
 keeps_flag parts events waits invariants = record {
   ready = invariants.ready;
   started = invariants.started;
@@ -479,13 +488,13 @@ keeps_flag parts events waits invariants = record {
 }
 
 -- who waits at the head
-module _ (old : Parts) (events : ℕ) (invariants : PartsInvariant old events) where
+module _ {walks : List Walk} (old : Parts) (events : ℕ) (invariants : InvariantWith walks old events) where
   -- where it counts, the IOMMU is this
   abbrev counting : Parts
   counting = record old { iommu = after_none old.iommu (registers_of old.iommu) (Some (counted_in old.iommu)) }
 
   -- where no command is done, and none counts, all that is kept stays
-  pub keeps_unopened : PartsInvariant (record old { iommu = after_none old.iommu (registers_of old.iommu) (fence_snapshot_of old.iommu) }) events
+  pub keeps_unopened : InvariantWith walks (record old { iommu = after_none old.iommu (registers_of old.iommu) (fence_snapshot_of old.iommu) }) events
   keeps_unopened = record {
     ready = invariants.ready;
     started = invariants.started;
@@ -501,7 +510,7 @@ module _ (old : Parts) (events : ℕ) (invariants : PartsInvariant old events) w
   }
 
   -- where no command waits, nothing was counted for one
-  pub keeps_nothing : head_entry old.memory (registers_of old.iommu) ≡ None → PartsInvariant (record old { iommu = after_nothing old.iommu (registers_of old.iommu) }) events
+  pub keeps_nothing : head_entry old.memory (registers_of old.iommu) ≡ None → InvariantWith walks (record old { iommu = after_nothing old.iommu (registers_of old.iommu) }) events
   keeps_nothing none = record {
     ready = invariants.ready;
     started = invariants.started;
@@ -518,7 +527,7 @@ module _ (old : Parts) (events : ℕ) (invariants : PartsInvariant old events) w
 
   -- a fence counts, since no invalidation request is open
   keeps_counted : (command_status (registers_of old.iommu)).cmd_to ≡ false → (store : Option FenceStore) (wsi pr pw : Bool) → head_entry old.memory (registers_of old.iommu) ≡ Some (Command (IofenceC store wsi pr pw))
-      → waits_for_slots (IofenceC store wsi pr pw) (slots_of old.iommu) ≡ false → PartsInvariant counting events
+      → waits_for_slots (IofenceC store wsi pr pw) (slots_of old.iommu) ≡ false → InvariantWith walks counting events
   keeps_counted going store wsi pr pw at free =
       let next = head_next old events invariants (IofenceC store wsi pr pw) at in
       let list = first_there (commands_in old.memory (registers_of old.iommu)) (Command (IofenceC store wsi pr pw)) at in
@@ -547,7 +556,7 @@ module _ (old : Parts) (events : ℕ) (invariants : PartsInvariant old events) w
         serials = invariants.serials;
         epochs = invariants.epochs;
         contexts = invariants.contexts;
-        copies = ∥∥₁_map invariants.copies (count_scene (values_of old) (values_of counting) counts []);
+        copies = ∥∥₁_map invariants.copies (count_scene (values_of old) (values_of counting) counts walks);
       }
 
   -- whether it waits for slots, or for accesses
@@ -555,51 +564,67 @@ module _ (old : Parts) (events : ℕ) (invariants : PartsInvariant old events) w
   waiting slots = record old { iommu = after_none old.iommu (registers_of old.iommu) (if slots then fence_snapshot_of old.iommu else Some (counted_in old.iommu)) }
 
   keeps_command : (command_status (registers_of old.iommu)).cmd_to ≡ false → (command : Commanded) → head_entry old.memory (registers_of old.iommu) ≡ Some (Command command) → is_held_back command old.iommu ≡ true
-      → PartsInvariant (waiting (waits_for_slots command (slots_of old.iommu))) events
+      → InvariantWith walks (waiting (waits_for_slots command (slots_of old.iommu))) events
   keeps_command going (IotinvalVma gscid pscid page) at held = absurd (false≢true held)
   keeps_command going (IotinvalGvma gscid page) at held = absurd (false≢true held)
   keeps_command going (IodirInvalDdt device) at held = absurd (false≢true held)
   keeps_command going (IofenceC store wsi pr pw) at held = by (waits_for_slots (IofenceC store wsi pr pw) (slots_of old.iommu)) refl
     where
-      by : (b : Bool) → waits_for_slots (IofenceC store wsi pr pw) (slots_of old.iommu) ≡ b → PartsInvariant (waiting b) events
+      by : (b : Bool) → waits_for_slots (IofenceC store wsi pr pw) (slots_of old.iommu) ≡ b → InvariantWith walks (waiting b) events
       by true waits = keeps_unopened
       by false free = keeps_counted going store wsi pr pw at free
   keeps_command going (AtsInval device range) at held = by (waits_for_slots (AtsInval device range) (slots_of old.iommu)) held
     where
-      by : (b : Bool) → (b || false) ≡ true → PartsInvariant (waiting b) events
+      by : (b : Bool) → (b || false) ≡ true → InvariantWith walks (waiting b) events
       by true waits = keeps_unopened
       by false none = absurd (false≢true none)
 
   pub keeps_waiting : (command_status (registers_of old.iommu)).cmd_to ≡ false → WaitsAt (head_entry old.memory (registers_of old.iommu)) old.iommu
-      → PartsInvariant (record old { iommu = after_none old.iommu (registers_of old.iommu) (fence_snapshot_at (head_entry old.memory (registers_of old.iommu)) old.iommu) }) events
+      → InvariantWith walks (record old { iommu = after_none old.iommu (registers_of old.iommu) (fence_snapshot_at (head_entry old.memory (registers_of old.iommu)) old.iommu) }) events
   keeps_waiting going waits = by (head_entry old.memory (registers_of old.iommu)) refl waits
     where
       by : (entry : Option QueueEntry) → head_entry old.memory (registers_of old.iommu) ≡ entry → WaitsAt entry old.iommu
-          → PartsInvariant (record old { iommu = after_none old.iommu (registers_of old.iommu) (fence_snapshot_at entry old.iommu) }) events
+          → InvariantWith walks (record old { iommu = after_none old.iommu (registers_of old.iommu) (fence_snapshot_at entry old.iommu) }) events
       by None at it = absurd it
       by (Some (Command command)) at it = keeps_command going command at it
       by (Some (Illegal reason)) at it = absurd it
       by (Some Outside) at it = absurd it
 
-pub keeps_fetched : (old new : Parts) (events : ℕ) (reply : Outcome) → PartsInvariant old events → DriverInvariant old.driver → StaysReady old.driver → (slots_of old.iommu).last < events
-    → FetchesNext old reply new → PartsInvariant new events
-keeps_fetched old new events reply invariants own unchanged below fetches =
-    by fetches.answer (by_answer old.memory new.memory old.iommu new.iommu fetches.answer fetches.call) fetches.fabric
+-- which walks are under way after a fetch
+abbrev pub WalksFetched : Fetched → List Walk → List Walk → Type 0
+WalksFetched (Did command) before after = WalksAfter command before after
+WalksFetched Waiting before after = after ≡ before
+WalksFetched Empty before after = after ≡ before
+WalksFetched Stopped before after = after ≡ before
+
+-- where none was under way none is
+pub none_fetched : (answer : Fetched) → WalksFetched answer [] []
+none_fetched (Did command) = no_walks_after command
+none_fetched Waiting = refl
+none_fetched Empty = refl
+none_fetched Stopped = refl
+
+pub keeps_fetched : {walks still : List Walk} (old new : Parts) (events : ℕ) (reply : Outcome) → InvariantWith walks old events → DriverInvariant old.driver → StaysReady old.driver
+    → (slots_of old.iommu).last < events → (fetches : FetchesNext old reply new) → WalksFetched fetches.answer walks still → InvariantWith still new events
+keeps_fetched {walks = walks} {still = still} old new events reply invariants own unchanged below fetches walks_after =
+    by fetches.answer (by_answer old.memory new.memory old.iommu new.iommu fetches.answer fetches.call) fetches.fabric walks_after
   where
     many : 64 ≤ length old.memory
     many = let m = own.sizes.size.0 in let size = invariants.ready.stand.size in omega (arith, size, m)
 
-    left : (iommu : Iommu) → PartsInvariant (record old { iommu = iommu }) events → new.memory ≡ old.memory → new.iommu ≡ iommu → new.fabric ≡ old.fabric → PartsInvariant new events
-    left iommu kept memory is fabric =
-        subst (λ parts. PartsInvariant parts events) (sym (parts_are new old.memory iommu old.driver old.devices old.fabric memory is fetches.driver fetches.devices fabric)) kept
+    left : (iommu : Iommu) → still ≡ walks → InvariantWith walks (record old { iommu = iommu }) events → new.memory ≡ old.memory → new.iommu ≡ iommu → new.fabric ≡ old.fabric → InvariantWith still new events
+    left iommu same kept memory is fabric =
+        subst (λ parts. InvariantWith still parts events) (sym (parts_are new old.memory iommu old.driver old.devices old.fabric memory is fetches.driver fetches.devices fabric))
+        (subst (λ ws. InvariantWith ws (record old { iommu = iommu }) events) (sym same) kept)
 
-    by : (answer : Fetched) → FetchesByAnswer old.memory old.iommu answer new.memory new.iommu → new.fabric ≡ with_fetched answer (slots_of new.iommu).last old.fabric → PartsInvariant new events
-    by (Did command) call fabric = keeps_done old new events command invariants own unchanged below call fetches.driver fetches.devices fabric
-    by Waiting call fabric = left _ (keeps_flag _ events (waits_at (head_entry old.memory (registers_of old.iommu)) old.iommu)
+    by : (answer : Fetched) → FetchesByAnswer old.memory old.iommu answer new.memory new.iommu → new.fabric ≡ with_fetched answer (slots_of new.iommu).last old.fabric → WalksFetched answer walks still
+        → InvariantWith still new events
+    by (Did command) call fabric after = keeps_done old new events command after invariants own unchanged below call fetches.driver fetches.devices fabric
+    by Waiting call fabric same = left _ same (keeps_flag _ events (waits_at (head_entry old.memory (registers_of old.iommu)) old.iommu)
         (keeps_waiting old events invariants (goes_on old events invariants call.0) call.1)) call.2 call.3 fabric
-    by Empty call fabric = left _ (keeps_nothing old events invariants call.1) call.2 call.3 fabric
-    by Stopped call fabric = stops (is_processing_commands (registers_of old.iommu)) call.0
+    by Empty call fabric same = left _ same (keeps_nothing old events invariants call.1) call.2 call.3 fabric
+    by Stopped call fabric same = stops (is_processing_commands (registers_of old.iommu)) call.0
       where
-        stops : (on : Bool) → StopsFetching on old.memory old.iommu new.iommu → PartsInvariant new events
+        stops : (on : Bool) → StopsFetching on old.memory old.iommu new.iommu → InvariantWith still new events
         stops true stopped = absurd (never_stops old events new.iommu invariants many stopped)
-        stops false stopped = left old.iommu invariants call.1 stopped fabric
+        stops false stopped = left old.iommu same invariants call.1 stopped fabric

@@ -3,6 +3,7 @@ use Rattle.std.proofs.Common.{suc, zero, ◌≡◌, ◌≢◌, ◌^◌, ◌<◌,
 use Rattle.std.specs.Option.{option_map}
 use Rattle.std.proofs.Math.Logic.{∥∥₁_map}
 use Rattle.std.proofs.lemmas.Bool.{false≢true, eq-eqb}
+use Rattle.iom_walk_coherence.specs.Walks.{Walk}
 use Rattle.iom_driver.specs.Fences.{last_fence, fence_of}
 use Rattle.iom_driver.specs.declared.device.Device as driver
 use Rattle.iom_driver.specs.Calls.{AnswersPlug}
@@ -32,7 +33,7 @@ use Rattle.iom_world_effects.specs.Effect.{PlugsIn, AddsRow, new_device, devices
 use Rattle.iom_tlb.specs.Chosen.{ioatc}
 use Rattle.iom_world_effects.specs.Parts.{Parts}
 use Rattle.iom_world_effects.specs.Read.{space_in, values_of, access_in_flight, accesses_of}
-use Rattle.iom_world_effects.specs.Invariant.{PartsInvariant, AreKnown, HaveDistinctIds, known_ids, plugged_ids, row_ids}
+use Rattle.iom_world_effects.specs.Invariant.{InvariantWith, AreKnown, HaveDistinctIds, known_ids, plugged_ids, row_ids}
 use Rattle.iom_world_effects.proofs.SceneCalls.{PlugsOne, plug_scene}
 use Rattle.iom_world_effects.proofs.InvariantLemmas.{same_completed, LeavesWord, sound_from, same_waiting, none_at}
 use Rattle.std.proofs.lemmas.List.Elements.{All-push}
@@ -92,7 +93,7 @@ accesses_pushed : (rows : List FlightRow) (id : ℕ) → accesses_of (rows ++ ne
 accesses_pushed [] id = refl
 accesses_pushed (row ∷ rows) id = ap (λ l. map (access_in_flight row.device) row.waiting ++ l) (accesses_pushed rows id)
 
-module _ (old new : Parts) (events id : ℕ) (what : NewDevice) (invariants : PartsInvariant old events) (ready : IsReady new.driver new.memory (registers_of new.iommu))
+module _ {walks : List Walk} (old new : Parts) (events id : ℕ) (what : NewDevice) (invariants : InvariantWith walks old events) (ready : IsReady new.driver new.memory (registers_of new.iommu))
     (admitted : NoneApplies (why_not_plug old.driver id)) (driver_now : new.driver ≡ record old.driver { devices = old.driver.devices ++ detached id (has_cache (kind_of what)) ∷ [] })
     (row : AddsDevice old.iommu id true new.iommu) (devices : new.devices ≡ old.devices ++ new_device id what ∷ []) (memory : new.memory ≡ old.memory) (fabric : new.fabric ≡ old.fabric) where
   leaves : LeavesWord old new
@@ -170,7 +171,7 @@ module _ (old new : Parts) (events id : ℕ) (what : NewDevice) (invariants : Pa
     };
   }
 
-  pub plugged_sound : PartsInvariant new events
+  pub plugged_sound : InvariantWith walks new events
   plugged_sound =
       sound_from old new events invariants leaves
       (record { status = ap command_status (ap (λ parts. parts.registers) row.rest); frames = (ap (λ parts. parts.frames) row.rest); so_far = counted_now; slots = (ap (λ parts. parts.slots) row.rest) })
@@ -178,12 +179,12 @@ module _ (old new : Parts) (events id : ℕ) (what : NewDevice) (invariants : Pa
       (λ d. subst (λ (n : ℕ). n ≤ events) (sym (ap (λ (ds : List Device). epoch_in ds d) devices ∙ epoch_pushed old.devices id what d)) (invariants.epochs d))
       (subst (λ (d : DriverState). d.given < 2 ^ 32) (sym driver_now) invariants.small)
       (λ other context cached. ap (λ a. option_map context_for (owned_stages a)) (attachments_now other) ∙ invariants.contexts other context (sym (contexts_now other) ∙ cached))
-      (∥∥₁_map invariants.copies (plug_scene (values_of old) (values_of new) id (kind_of what) plugs_one []))
+      (∥∥₁_map invariants.copies (plug_scene (values_of old) (values_of new) id (kind_of what) plugs_one walks))
 
-pub keeps_plugged : (disks : List ℕ) (old new : Parts) (events id : ℕ) (what : NewDevice) (reply : Outcome) → PartsInvariant old events → IsReady new.driver new.memory (registers_of new.iommu)
-    → PlugsIn disks old id what reply new → PartsInvariant new events
-keeps_plugged disks old new events id what reply invariants ready plugs = by plugs.answer plugs.call plugs.row plugs.devices
+pub keeps_plugged : {walks : List Walk} (disks : List ℕ) (old new : Parts) (events id : ℕ) (what : NewDevice) (reply : Outcome) → InvariantWith walks old events → IsReady new.driver new.memory (registers_of new.iommu)
+    → PlugsIn disks old id what reply new → InvariantWith walks new events
+keeps_plugged {walks = walks} disks old new events id what reply invariants ready plugs = by plugs.answer plugs.call plugs.row plugs.devices
   where
-    by : (answer : Result (Unit {0}) Refusal) → AnswersPlug old.driver id (has_cache (kind_of what)) answer new.driver → AddsRow answer old.iommu id new.iommu → new.devices ≡ devices_after answer old.devices id what → PartsInvariant new events
+    by : (answer : Result (Unit {0}) Refusal) → AnswersPlug old.driver id (has_cache (kind_of what)) answer new.driver → AddsRow answer old.iommu id new.iommu → new.devices ≡ devices_after answer old.devices id what → InvariantWith walks new events
     by (Ok done) (admitted, driver_now) row devices = plugged_sound old new events id what invariants ready admitted driver_now row devices plugs.memory plugs.fabric
     by (Err why) (refused, driver_stays) row devices = rw (plugs.memory, row, driver_stays, devices, plugs.fabric) invariants

@@ -1,9 +1,10 @@
 -- What stays true of a world at a poll: a device that left has no context cached any more, since its ticket's fence came after the command that drops it.
-use Rattle.std.proofs.Common.{◌≡◌, ◌+◌, ◌-◌, ◌^◌, ◌<◌, ◌≤◌, ◌==◌, ◌⊎◌, inl, inr, ◌∙◌, min, nat_le, nat_lt, is_some, ℕ, Bool, true, false, List, length, Option, Some, Result, Ok, Err, slice_get, refl, sym, ap, subst, arith, if◌then◌else◌, []}
+use Rattle.std.proofs.Common.{◌≡◌, ◌+◌, ◌-◌, ◌^◌, ◌<◌, ◌≤◌, ◌==◌, ◌⊎◌, inl, inr, ◌∙◌, min, nat_le, nat_lt, is_some, ℕ, Bool, true, false, List, length, Option, Some, Result, Ok, Err, slice_get, refl, sym, ap, subst, arith, if◌then◌else◌}
 use Rattle.std.specs.Option.{option_map, option_map_or}
 use Rattle.std.proofs.Math.Logic.{∥∥₁_map}
 use Rattle.std.proofs.Math.Nat.{min-le_right}
 use Rattle.std.proofs.lemmas.Bool.{eqb-true, leb-true}
+use Rattle.iom_walk_coherence.specs.Walks.{Walk}
 use Rattle.iom_base.specs.declared.owner.Owner.{Owner}
 use Rattle.iom_base.specs.declared.owner.Owner.TheVariants.{System}
 use Rattle.iom_driver.specs.declared.answers.Polled.{Polled}
@@ -29,8 +30,8 @@ use Rattle.iom_world_effects.specs.Parts.{Parts}
 use Rattle.iom_world_effects.specs.Queued.{completed_in}
 use Rattle.iom_tlb.specs.declared.space.Space.{Space}
 use Rattle.iom_world_effects.specs.Read.{space_in, space_at, values_of, accesses_of}
-use Rattle.iom_world_effects.specs.Scenes.{HasFaithfulScene}
-use Rattle.iom_world_effects.specs.Invariant.{PartsInvariant, AreKnown, ContextsAreTrue, known_ids, plugged_ids, row_ids}
+use Rattle.iom_world_effects.specs.Scenes.{HasSceneWith}
+use Rattle.iom_world_effects.specs.Invariant.{InvariantWith, AreKnown, ContextsAreTrue, known_ids, plugged_ids, row_ids}
 use Rattle.iom_world_effects.proofs.DeviceLemmas.{after, attachment_confirmed, trusted_confirmed, ids_confirmed, left_is}
 use Rattle.iom_world_effects.proofs.DriverLemmas.{DriverInvariant}
 use Rattle.iom_world_effects.proofs.CachedLemmas.{none_spaced}
@@ -68,7 +69,7 @@ pub polled_most : (r : Registers) (d : DriverState) (memory : List (List ℕ)) (
 polled_most r d memory polled next memory' own confirms =
     let low = done_low d confirms.word in let ordered = own.tickets.ordered in let count = confirms.count in omega (arith, low, ordered, count)
 
-module _ (old new : Parts) (events : ℕ) (polled : Polled) (invariants : PartsInvariant old events) (own : DriverInvariant old.driver) (ready : IsReady new.driver new.memory (registers_of new.iommu))
+module _ {walks : List Walk} (old new : Parts) (events : ℕ) (polled : Polled) (invariants : InvariantWith walks old events) (own : DriverInvariant old.driver) (ready : IsReady new.driver new.memory (registers_of new.iommu))
     (confirms : ConfirmsDone (registers_of old.iommu) old.driver old.memory polled new.driver new.memory) (iommu : new.iommu ≡ old.iommu) (devices : new.devices ≡ old.devices) (fabric : new.fabric ≡ old.fabric) where
   done : ℕ
   done = done_after old.driver polled
@@ -148,7 +149,7 @@ module _ (old new : Parts) (events : ℕ) (polled : Polled) (invariants : PartsI
         traffic = traffic_kept old new devices fabric (ap slots_of iommu);
       }
 
-  contexts_true : ∥ HasFaithfulScene (values_of new) ∥₁ → ContextsAreTrue new
+  contexts_true : ∥ HasSceneWith (values_of new) walks ∥₁ → ContextsAreTrue new
   contexts_true copies id context cached = by (has_left_until (done_after old.driver polled) (attachment_by_id old.driver.devices id)) refl
     where
       by : (b : Bool) → has_left_until (done_after old.driver polled) (attachment_by_id old.driver.devices id) ≡ b → option_map context_for (owned_stages_of new.driver.devices id) ≡ Some context
@@ -160,11 +161,11 @@ module _ (old new : Parts) (events : ℕ) (polled : Polled) (invariants : PartsI
           ∙ ap (λ b. option_map context_for (owned_stages (if b then Detached else attachment_by_id old.driver.devices id))) unchanged
           ∙ invariants.contexts id context (ap (λ i. contexts_of i id) (sym iommu) ∙ cached)
 
-  pub polled_sound : PartsInvariant new events
+  pub polled_sound : InvariantWith walks new events
   polled_sound =
       let given : new.driver.given ≡ old.driver.given = ap (λ (d : DriverState). d.given) confirms.driver in
       let small = invariants.small in
-      let copies = ∥∥₁_map invariants.copies (poll_scene (values_of old) (values_of new) polled.count rest confirms_some []) in
+      let copies = ∥∥₁_map invariants.copies (poll_scene (values_of old) (values_of new) polled.count rest confirms_some walks) in
       sound_from old new events invariants leaves (same_iommu old new iommu) (ap (λ (d : DriverState). d.started) confirms.driver) ready
       (same_known old new devices fabric (ap (λ (d : DriverState). known_ids d.devices) confirms.driver ∙ ids_confirmed (done_after old.driver polled) old.driver.devices)
       (λ d. ap (λ (s : DriverState). has_trusted_cache s.devices d) confirms.driver ∙ trusted_confirmed (done_after old.driver polled) old.driver.devices d)
@@ -172,16 +173,16 @@ module _ (old new : Parts) (events : ℕ) (polled : Polled) (invariants : PartsI
       (same_epochs old new events invariants devices)
       (omega (arith, given, small)) (contexts_true copies) copies
 
-pub keeps_polled : (old new : Parts) (events : ℕ) (reply : Outcome) → PartsInvariant old events → DriverInvariant old.driver → IsReady new.driver new.memory (registers_of new.iommu)
-    → PollsTickets old reply new → PartsInvariant new events
-keeps_polled old new events reply invariants own ready polls = by polls.answer polls.call
+pub keeps_polled : {walks : List Walk} (old new : Parts) (events : ℕ) (reply : Outcome) → InvariantWith walks old events → DriverInvariant old.driver → IsReady new.driver new.memory (registers_of new.iommu)
+    → PollsTickets old reply new → InvariantWith walks new events
+keeps_polled {walks = walks} old new events reply invariants own ready polls = by polls.answer polls.call
   where
-    by : (answer : Result Polled Refusal) → AnswersPoll (registers_of old.iommu) old.driver old.memory answer new.driver new.memory → PartsInvariant new events
+    by : (answer : Result Polled Refusal) → AnswersPoll (registers_of old.iommu) old.driver old.memory answer new.driver new.memory → InvariantWith walks new events
     by (Ok polled) (admitted, confirms) = polled_sound old new events polled invariants own ready confirms polls.iommu polls.devices polls.fabric
     by (Err why) (refused, driver_stays, memory_stays) = rw (memory_stays, polls.iommu, driver_stays, polls.devices, polls.fabric) invariants
 
 -- the tickets that a poll tells are 32 bits wide
-pub polled_low : (old : Parts) (events : ℕ) (polled : Polled) (next : DriverState) (memory : List (List ℕ)) → PartsInvariant old events → DriverInvariant old.driver
+pub polled_low : {walks : List Walk} (old : Parts) (events : ℕ) (polled : Polled) (next : DriverState) (memory : List (List ℕ)) → InvariantWith walks old events → DriverInvariant old.driver
     → AnswersPoll (registers_of old.iommu) old.driver old.memory (Ok polled) next memory → polled.first + polled.count ≤ 2 ^ 32
 polled_low old events polled next memory invariants own (admitted, confirms) =
     let small = invariants.small in

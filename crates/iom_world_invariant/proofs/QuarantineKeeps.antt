@@ -3,6 +3,7 @@ use Rattle.std.proofs.Common.{◌≡◌, ◌+◌, ◌^◌, ◌<◌, ◌==◌, �
 use Rattle.std.specs.Option.{option_map}
 use Rattle.std.proofs.Math.Logic.{∥∥₁_map}
 use Rattle.std.proofs.lemmas.Bool.Decides.{eqb_tells}
+use Rattle.iom_walk_coherence.specs.Walks.{Walk}
 use Rattle.iom_base.specs.Modes.{size_in}
 use Rattle.iom_command_queue.specs.declared.entry.QueueEntry.{QueueEntry}
 use Rattle.iom_command_queue.specs.declared.entry.QueueEntry.TheVariants as stands
@@ -34,7 +35,7 @@ use Rattle.iom_world_effects.specs.Devices.{shown_attachment}
 use Rattle.iom_world_effects.specs.Parts.{Parts}
 use Rattle.iom_world_effects.specs.Read.{space_in, space_at, values_of, accesses_of}
 use Rattle.iom_world_effects.specs.Recovery.{QuarantinesDevice}
-use Rattle.iom_world_effects.specs.Invariant.{PartsInvariant, known_ids, row_ids}
+use Rattle.iom_world_effects.specs.Invariant.{InvariantWith, known_ids, row_ids}
 use Rattle.iom_world_effects.proofs.CachedLemmas.{spaces_owned}
 use Rattle.iom_world_effects.proofs.DeviceLemmas.{shown_set, trusted_set, ids_set, attachment_set, attachment_other}
 use Rattle.iom_world_invariant.proofs.DriverKeeps.{attached_is}
@@ -46,7 +47,7 @@ use Rattle.iom_world_invariant.proofs.ReleaseKeeps.{not_of_device, rung_cached, 
 use Rattle.iom_world_effects.proofs.SceneCalls.{QueuesTicket}
 use Rattle.iom_world_effects.proofs.InvariantLemmas.{same_completed, LeavesWord, sound_from, fixed_frames, none_at, kinds_kept, same_epochs}
 
-module _ (old new : Parts) (events id ticket : ℕ) (invariants : PartsInvariant old events) (own : DriverInvariant old.driver) (ready : IsReady new.driver new.memory (registers_of new.iommu))
+module _ {walks : List Walk} (old new : Parts) (events id ticket : ℕ) (invariants : InvariantWith walks old events) (own : DriverInvariant old.driver) (ready : IsReady new.driver new.memory (registers_of new.iommu))
     (numbers : nat_le 4294967295 (last_fence old.driver) ≡ false) (queues : QueuesQuarantine mmio old.driver old.memory old.iommu id ticket new.driver new.memory new.iommu)
     (devices : new.devices ≡ old.devices) (fabric : new.fabric ≡ old.fabric) where
   rung : IsRung old.iommu new.iommu
@@ -114,7 +115,7 @@ module _ (old new : Parts) (events id ticket : ℕ) (invariants : PartsInvariant
         cached = rung_cached old new (invariants.ready.ring invariants.started).on rung devices fabric (ap (λ (d : DriverState). fence_of d) queues.driver) (spaces_owned old.driver.devices new.driver.devices owned_still);
       }
 
-  pub quarantined_sound : PartsInvariant new events
+  pub quarantined_sound : InvariantWith walks new events
   quarantined_sound =
       sound_from old new events invariants leaves (rung_leaves old new (invariants.ready.ring invariants.started).on rung) (ap (λ (d : DriverState). d.started) queues.driver) ready
       (same_known old new devices fabric (ap (λ (d : DriverState). known_ids d.devices) queues.driver ∙ ids_set old.driver.devices id (Quarantined ticket queues.stage))
@@ -129,13 +130,13 @@ module _ (old new : Parts) (events id ticket : ℕ) (invariants : PartsInvariant
       (λ d. ap (λ (s : DriverState). shown_attachment (attachment_by_id s.devices d)) queues.driver ∙ shown_set old.driver.devices id (Quarantined ticket queues.stage) plugged d
       ∙ ap (λ t. if id == d then shown.Quarantined t queues.stage.mode queues.stage.ats else shown_attachment (attachment_by_id old.driver.devices d)) queues.next)
       (subst (λ t. (h : History) → Agrees old.driver.ledger h → confirms h t ≡ false → Agrees new.driver.ledger (AllReleased id t ∷ h)) queues.next queues.agrees)
-      []))
+      walks))
 
-pub keeps_quarantined : (old new : Parts) (events id : ℕ) (reply : Outcome) → PartsInvariant old events → DriverInvariant old.driver → IsReady new.driver new.memory (registers_of new.iommu)
-    → QuarantinesDevice old id reply new → PartsInvariant new events
-keeps_quarantined old new events id reply invariants own ready quarantines = by quarantines.answer quarantines.call
+pub keeps_quarantined : {walks : List Walk} (old new : Parts) (events id : ℕ) (reply : Outcome) → InvariantWith walks old events → DriverInvariant old.driver → IsReady new.driver new.memory (registers_of new.iommu)
+    → QuarantinesDevice old id reply new → InvariantWith walks new events
+keeps_quarantined {walks = walks} old new events id reply invariants own ready quarantines = by quarantines.answer quarantines.call
   where
-    by : (answer : Result answers.Ticket Refusal) → AnswersQuarantine mmio old.driver old.memory old.iommu id answer new.driver new.memory new.iommu → PartsInvariant new events
+    by : (answer : Result answers.Ticket Refusal) → AnswersQuarantine mmio old.driver old.memory old.iommu id answer new.driver new.memory new.iommu → InvariantWith walks new events
     by (Ok ticket) (admitted, queues) =
         quarantined_sound old new events id ticket.0 invariants own ready
         (none_at (why_not_quarantine old.driver (registers_of old.iommu) id) 6 (nat_le 4294967295 (last_fence old.driver)) NumbersUsedUp refl admitted) queues quarantines.devices quarantines.fabric

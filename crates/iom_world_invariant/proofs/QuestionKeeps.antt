@@ -1,6 +1,7 @@
 -- What stays true of a world when the IOMMU answers a question: what is told is held, or cached, and so no copy outlives it.
-use Rattle.std.proofs.Common.{◌≡◌, ◌*◌, ◌/◌, ◌^◌, ◌<◌, ◌≤◌, ◌⊎◌, ◌∙◌, inl, inr, ℕ, Bool, true, false, is_some, length, [], remove, Contains, Some, Ok, Err, slice_get, refl, sym, ap, subst, arith}
+use Rattle.std.proofs.Common.{◌≡◌, ◌*◌, ◌/◌, ◌^◌, ◌<◌, ◌≤◌, ◌⊎◌, ◌∙◌, inl, inr, ℕ, Bool, true, false, is_some, length, [], remove, Contains, Some, Ok, Err, slice_get, refl, sym, ap, subst, arith, List}
 use Rattle.std.specs.List.{All}
+use Rattle.iom_walk_coherence.specs.Walks.{Walk}
 use Rattle.iom_base.specs.declared.access.AccessKind.TheVariants.{Read}
 use Rattle.iom_base.specs.declared.cause.Cause.{Cause}
 use Rattle.iom_base.specs.declared.rights.Rights.{Rights}
@@ -29,7 +30,7 @@ use Rattle.iom_world_effects.specs.Messages.{with_sent}
 use Rattle.iom_world_effects.specs.Parts.{Parts}
 use Rattle.iom_world_effects.specs.Read.{values_of}
 use Rattle.iom_world_effects.specs.Scenes.{copy_of, IsSceneOf}
-use Rattle.iom_world_effects.specs.Invariant.{PartsInvariant, HasAsker, row_ids}
+use Rattle.iom_world_effects.specs.Invariant.{InvariantWith, HasAsker, row_ids}
 use Rattle.iom_world_effects.specs.Traffic.{Traffic, message_on, messages_in}
 use Rattle.iom_world_invariant.proofs.ContextKeeps.{KeepsAttached, keeps_attached, contexts_kept}
 use Rattle.iom_world_effects.proofs.DriverLemmas.{DriverInvariant}
@@ -51,7 +52,7 @@ IsKnownTo scene device page translation = IsWalked scene (copy_of device page tr
 abbrev pub answering : Parts → Parts → Parts
 answering old new = record old { memory = new.memory; iommu = new.iommu }
 
-module _ (laws : ServiceLaws) (old new : Parts) (events device page : ℕ) (invariants : PartsInvariant old events) (own : DriverInvariant old.driver) (stays_ready : StaysReady old.driver)
+module _ {walks : List Walk} (laws : ServiceLaws) (old new : Parts) (events device page : ℕ) (invariants : InvariantWith walks old events) (own : DriverInvariant old.driver) (stays_ready : StaysReady old.driver)
     (report_ready : StaysReported old.driver) (low : page < 2 ^ 52) where
   abbrev after : Parts
   after = record old { memory = new.memory; iommu = new.iommu }
@@ -66,7 +67,7 @@ module _ (laws : ServiceLaws) (old new : Parts) (events device page : ℕ) (inva
   quiet_sound : new.memory ≡ old.memory → registers_of new.iommu ≡ registers_of old.iommu → frames_of new.iommu ≡ frames_of old.iommu → slots_of new.iommu ≡ slots_of old.iommu
       → flights_of new.iommu ≡ flights_of old.iommu → fence_snapshot_of new.iommu ≡ fence_snapshot_of old.iommu
       → KeepsAttached (attachment_by_id old.driver.devices device) device (contexts_of old.iommu) (contexts_of new.iommu)
-      → TranslationsChange (values_of old) device (translations_of new.iommu) → PartsInvariant (answering old new) events
+      → TranslationsChange (values_of old) device (translations_of new.iommu) → InvariantWith walks (answering old new) events
   quiet_sound memory registers frames slots flights fence_snapshot keeps change =
       let leaves : Leaves old after = record {
         size = ap (λ m. length m) memory;
@@ -81,7 +82,7 @@ module _ (laws : ServiceLaws) (old new : Parts) (events device page : ℕ) (inva
       } in
       sound_from old after events invariants own leaves stays_ready (subst (λ (f : Flights). f.so_far ≤ events) (sym flights) invariants.counted)
       (contexts_kept old after device invariants.contexts keeps refl)
-      (settled_scene old after device (grants_kept old after events invariants own leaves) (queue_kept old after events invariants own leaves fence_snapshot) flights keeps change [])
+      (settled_scene old after device (grants_kept old after events invariants own leaves) (queue_kept old after events invariants own leaves fence_snapshot) flights keeps change walks)
 
   -- a page is told
   told_page : (frame : ℕ) (rights : Rights) → (call : TellsPage old.memory old.iommu device page frame rights new.iommu)
@@ -89,7 +90,7 @@ module _ (laws : ServiceLaws) (old new : Parts) (events device page : ℕ) (inva
   told_page frame rights call =
       outcome_of_done laws old events invariants own device (page * 4096) ioatc.SURE (translations_of old.iommu) (translations_of new.iommu) (Ok (record { frame = frame; rights = rights; order = call.order })) fits call.served
 
-  told_sound : (frame : ℕ) (rights : Rights) → TellsPage old.memory old.iommu device page frame rights new.iommu → new.memory ≡ old.memory → PartsInvariant (answering old new) events
+  told_sound : (frame : ℕ) (rights : Rights) → TellsPage old.memory old.iommu device page frame rights new.iommu → new.memory ≡ old.memory → InvariantWith walks (answering old new) events
   told_sound frame rights call memory =
       let reply = told_page frame rights call in
       quiet_sound memory (ap (λ parts. parts.registers) call.rest) (ap (λ parts. parts.frames) call.rest) (ap (λ parts. parts.slots) call.rest) (ap (λ parts. parts.flights) call.rest) (ap (λ parts. parts.fence_snapshot) call.rest) (keeps_attached laws old events invariants own device (contexts_of new.iommu) call.contexts)
@@ -108,7 +109,7 @@ module _ (laws : ServiceLaws) (old new : Parts) (events device page : ℕ) (inva
       )
 
   -- there is no answer
-  refused_sound : (cause : Cause) → RefusesQuestion old.memory old.iommu device page cause new.memory new.iommu → PartsInvariant (answering old new) events
+  refused_sound : (cause : Cause) → RefusesQuestion old.memory old.iommu device page cause new.memory new.iommu → InvariantWith walks (answering old new) events
   refused_sound cause call = by (is_page_fault call.fault.cause) call.recorded
     where
       fields : Fields
@@ -123,13 +124,13 @@ module _ (laws : ServiceLaws) (old new : Parts) (events device page : ℕ) (inva
           inl (λ key translation at. sym (reply.1 key) ∙ at)
 
       by : (b : Bool) → RecordsUnless b old.memory (registers_of old.iommu) (record_of (faulted_of device AtsRequest (page * 4096)) (fault_of call.fault)) new.memory (registers_of new.iommu)
-          → PartsInvariant (answering old new) events
+          → InvariantWith walks (answering old new) events
       by true (memory, registers) = quiet_sound memory registers (ap (λ parts. parts.frames) call.rest) (ap (λ parts. parts.slots) call.rest) (ap (λ parts. parts.flights) call.rest) (ap (λ parts. parts.fence_snapshot) call.rest) keeps change
       by false (put, recorded) =
           let leaves : LeavesReport old after = record_leaves old after events fields put invariants report_ready refl refl refl (ap (λ parts. parts.frames) call.rest) (ap (λ parts. parts.slots) call.rest) (ap (λ parts. parts.flights) call.rest) recorded in
           report_sound old after events invariants own leaves (subst (λ (f : Flights). f.so_far ≤ events) (sym (ap (λ parts. parts.flights) call.rest)) invariants.counted)
           (contexts_kept old after device invariants.contexts keeps refl)
-          (settled_scene old after device (report_grants old after events invariants own leaves) (report_queue old after events invariants own leaves (ap (λ parts. parts.fence_snapshot) call.rest)) (ap (λ parts. parts.flights) call.rest) keeps change [])
+          (settled_scene old after device (report_grants old after events invariants own leaves) (report_queue old after events invariants own leaves (ap (λ parts. parts.fence_snapshot) call.rest)) (ap (λ parts. parts.flights) call.rest) keeps change walks)
 
   -- the answer is sent
   module _ (place epoch : ℕ) (at : slice_get old.fabric place ≡ Some (record { device = device; message = sent.Ask epoch page })) where
@@ -153,8 +154,8 @@ module _ (laws : ServiceLaws) (old new : Parts) (events device page : ℕ) (inva
         let answered = told_there frame rights call.0 scene shows in
         subst (MayBeSent scene) (sym (the_one (Answer epoch (record { device = device; page = page; pair = (frame, rights) })) x there)) (asked scene shows, answered.0, answered.1)
 
-    sent_sound : (answer : Told) → AnswersQuestion old.memory old.iommu device page answer new.memory new.iommu → PartsInvariant (answering old new) events
-        → PartsInvariant (record (answering old new) { fabric = with_sent (remove old.fabric place) device (sent.Answer epoch page answer) }) events
+    sent_sound : (answer : Told) → AnswersQuestion old.memory old.iommu device page answer new.memory new.iommu → InvariantWith walks (answering old new) events
+        → InvariantWith walks (record (answering old new) { fabric = with_sent (remove old.fabric place) device (sent.Answer epoch page answer) }) events
     sent_sound answer call between =
         carried_sound after (with_sent (remove old.fabric place) device (sent.Answer epoch page answer)) events between (askers answer)
         (λ scene shows facts x there. elim (sent_cases (remove old.fabric place) device (sent.Answer epoch page answer) x there) [
@@ -163,16 +164,16 @@ module _ (laws : ServiceLaws) (old new : Parts) (events device page : ℕ) (inva
         ])
 
     answer_sound : (answer : Told) → AnswersQuestion old.memory old.iommu device page answer new.memory new.iommu
-        → PartsInvariant (record (answering old new) { fabric = with_sent (remove old.fabric place) device (sent.Answer epoch page answer) }) events
+        → InvariantWith walks (record (answering old new) { fabric = with_sent (remove old.fabric place) device (sent.Answer epoch page answer) }) events
     answer_sound (Page frame rights) call = sent_sound (Page frame rights) call (told_sound frame rights call.0 call.1)
     answer_sound (Refused cause) call = sent_sound (Refused cause) call (refused_sound cause call)
 
 -- A QUESTION IS ANSWERED
-pub keeps_answered : ServiceLaws → (old new : Parts) (events place device epoch page : ℕ) (reply : Outcome) → PartsInvariant old events → DriverInvariant old.driver → StaysReady old.driver
+pub keeps_answered : {walks : List Walk} → ServiceLaws → (old new : Parts) (events place device epoch page : ℕ) (reply : Outcome) → InvariantWith walks old events → DriverInvariant old.driver → StaysReady old.driver
     → StaysReported old.driver → slice_get old.fabric place ≡ Some (record { device = device; message = sent.Ask epoch page })
-    → AnswersAsked old device epoch page (remove old.fabric place) reply new → PartsInvariant new events
-keeps_answered laws old new events place device epoch page reply invariants own unchanged reported at answers =
+    → AnswersAsked old device epoch page (remove old.fabric place) reply new → InvariantWith walks new events
+keeps_answered {walks = walks} laws old new events place device epoch page reply invariants own unchanged reported at answers =
     let asker = All-at (HasAsker old.devices) old.fabric place (record { device = device; message = sent.Ask epoch page }) invariants.known.askers at in
-    subst (λ parts. PartsInvariant parts events)
+    subst (λ parts. InvariantWith walks parts events)
     (sym (parts_are new new.memory new.iommu old.driver old.devices (with_sent (remove old.fabric place) device (sent.Answer epoch page answers.answer)) refl refl answers.driver answers.devices answers.fabric))
     (answer_sound laws old new events device page invariants own unchanged reported asker.1 place epoch at answers.answer answers.call)

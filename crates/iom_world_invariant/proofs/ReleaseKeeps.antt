@@ -3,6 +3,7 @@ use Rattle.std.proofs.Common.{◌≡◌, ◌≢◌, ◌+◌, ◌^◌, ◌<◌, �
 use Rattle.std.specs.Option.{option_map}
 use Rattle.std.proofs.Math.Logic.{∥∥₁_map}
 use Rattle.std.proofs.lemmas.Bool.{leb-false}
+use Rattle.iom_walk_coherence.specs.Walks.{Walk}
 use Rattle.iom_base.specs.Modes.{size_in}
 use Rattle.iom_base.specs.declared.owner.Owner.{Owner}
 use Rattle.iom_base.specs.declared.owner.Owner.TheVariants.{System, OneDevice}
@@ -37,7 +38,7 @@ use Rattle.iom_world_effects.specs.Effect.{ReleasesPage}
 use Rattle.iom_world_effects.specs.Parts.{Parts}
 use Rattle.iom_tlb.specs.declared.space.Space.{Space}
 use Rattle.iom_world_effects.specs.Read.{space_in, space_at, values_of, accesses_of}
-use Rattle.iom_world_effects.specs.Invariant.{PartsInvariant, known_ids, row_ids}
+use Rattle.iom_world_effects.specs.Invariant.{InvariantWith, known_ids, row_ids}
 use Rattle.iom_world_invariant.proofs.DriverKeeps.{attached_is}
 use Rattle.iom_world_effects.proofs.DriverLemmas.{DriverInvariant}
 use Rattle.iom_world_invariant.proofs.PollKeeps.{same_known}
@@ -132,7 +133,7 @@ rung_cached old new on rung devices fabric fences spaces = record {
 pub next_small : (given restarts : ℕ) → nat_le 4294967295 (given + restarts) ≡ false → given + 1 < 2 ^ 32
 next_small given restarts numbers = let below : given + restarts < 4294967295 = leb-false 4294967295 (given + restarts) numbers in omega (arith, below)
 
-module _ (old new : Parts) (events id page ticket : ℕ) (invariants : PartsInvariant old events) (own : DriverInvariant old.driver) (ready : IsReady new.driver new.memory (registers_of new.iommu))
+module _ {walks : List Walk} (old new : Parts) (events id page ticket : ℕ) (invariants : InvariantWith walks old events) (own : DriverInvariant old.driver) (ready : IsReady new.driver new.memory (registers_of new.iommu))
     (numbers : nat_le 4294967295 (last_fence old.driver) ≡ false) (queues : QueuesRelease mmio old.driver old.memory old.iommu id page ticket new.driver new.memory new.iommu)
     (devices : new.devices ≡ old.devices) (fabric : new.fabric ≡ old.fabric) where
   rung : IsRung old.iommu new.iommu
@@ -174,7 +175,7 @@ module _ (old new : Parts) (events id page ticket : ℕ) (invariants : PartsInva
         cached = rung_cached old new (invariants.ready.ring invariants.started).on rung devices fabric (ap (λ (d : DriverState). fence_of d) queues.driver) (spaces_same old.driver.devices new.driver.devices (ap (λ (d : DriverState). d.devices) queues.driver));
       }
 
-  pub released_sound : PartsInvariant new events
+  pub released_sound : InvariantWith walks new events
   released_sound =
       sound_from old new events invariants leaves (rung_leaves old new (invariants.ready.ring invariants.started).on rung) (ap (λ (d : DriverState). d.started) queues.driver) ready
       (same_known old new devices fabric (ap (λ (d : DriverState). known_ids d.devices) queues.driver) (λ d. ap (λ (s : DriverState). has_trusted_cache s.devices d) queues.driver)
@@ -188,13 +189,13 @@ module _ (old new : Parts) (events id page ticket : ℕ) (invariants : PartsInva
       (ap shown_attachment (attached_is (attachment_by_id old.driver.devices id) queues.stage queues.attached))
       (λ d. ap (λ (s : DriverState). shown_attachment (attachment_by_id s.devices d)) queues.driver)
       (subst (λ t. (h : History) → Agrees old.driver.ledger h → confirms h t ≡ false → Agrees new.driver.ledger (Released id page t ∷ h)) queues.next queues.agrees)
-      []))
+      walks))
 
-pub keeps_released : (old new : Parts) (events id page : ℕ) (reply : Outcome) → PartsInvariant old events → DriverInvariant old.driver → IsReady new.driver new.memory (registers_of new.iommu)
-    → ReleasesPage old id page reply new → PartsInvariant new events
-keeps_released old new events id page reply invariants own ready releases = by releases.answer releases.call
+pub keeps_released : {walks : List Walk} (old new : Parts) (events id page : ℕ) (reply : Outcome) → InvariantWith walks old events → DriverInvariant old.driver → IsReady new.driver new.memory (registers_of new.iommu)
+    → ReleasesPage old id page reply new → InvariantWith walks new events
+keeps_released {walks = walks} old new events id page reply invariants own ready releases = by releases.answer releases.call
   where
-    by : (answer : Result answers.Ticket Refusal) → AnswersRelease mmio old.driver old.memory old.iommu id page answer new.driver new.memory new.iommu → PartsInvariant new events
+    by : (answer : Result answers.Ticket Refusal) → AnswersRelease mmio old.driver old.memory old.iommu id page answer new.driver new.memory new.iommu → InvariantWith walks new events
     by (Ok ticket) (admitted, queues) =
         released_sound old new events id page ticket.0 invariants own ready
         (none_at (why_not_release old.driver (registers_of old.iommu) id page) 7 (nat_le 4294967295 (last_fence old.driver)) NumbersUsedUp refl admitted) queues releases.devices releases.fabric

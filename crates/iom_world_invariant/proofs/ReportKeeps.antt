@@ -1,5 +1,6 @@
 -- The driver takes a fault record: what stays true of a world, and that it is a step of the ledger machine.
 use Rattle.std.proofs.Common.{◌≡◌, ◌∙◌, ℕ, Bool, true, not, is_some, List, [], ◌∷◌, length, slice_get, Option, Some, None, Result, Ok, Err, refl, sym, ap, subst, if◌then◌else◌}
+use Rattle.iom_walk_coherence.specs.Walks.{Walk}
 use Rattle.iom_command_queue.specs.Waiting.{commands_in}
 use Rattle.iom_coherence.specs.Among.{AreAmong}
 use Rattle.iom_driver.specs.Laws.{LeavesCommands}
@@ -26,7 +27,7 @@ use Rattle.iom_iommu.specs.OwnIommu.{Iommu}
 use Rattle.iom_world_effects.specs.Parts.{Parts}
 use Rattle.iom_world_effects.specs.Read.{values_of, accesses_of}
 use Rattle.iom_world_effects.specs.Shows.{PartsShow}
-use Rattle.iom_world_effects.specs.Invariant.{PartsInvariant, ContextsAreTrue}
+use Rattle.iom_world_effects.specs.Invariant.{InvariantWith, ContextsAreTrue}
 use Rattle.iom_world_effects.proofs.DriverLemmas.{DriverInvariant}
 use Rattle.iom_world_effects.proofs.CallRefused.{same_of}
 use Rattle.iom_world_invariant.proofs.RequestStep.{shows_flights}
@@ -96,9 +97,9 @@ leaves_taken old new reply on ready takes =
     }
 
 -- A FAULT RECORD IS TAKEN
-pub keeps_taken : (old new : Parts) (events : ℕ) (reply : Outcome) → PartsInvariant old events → DriverInvariant old.driver → IsReady new.driver new.memory (registers_of new.iommu)
-    → TakesReport old reply new → PartsInvariant new events
-keeps_taken old new events reply invariants own ready takes =
+pub keeps_taken : {walks : List Walk} (old new : Parts) (events : ℕ) (reply : Outcome) → InvariantWith walks old events → DriverInvariant old.driver → IsReady new.driver new.memory (registers_of new.iommu)
+    → TakesReport old reply new → InvariantWith walks new events
+keeps_taken {walks = walks} old new events reply invariants own ready takes =
     let writes = wrote old.driver old.memory old.iommu new.iommu takes.answer takes.call in
     let on = (invariants.ready.ring invariants.started).on in
     let leaves = leaves_taken old new reply on ready takes in
@@ -108,9 +109,9 @@ keeps_taken old new events reply invariants own ready takes =
     (ap (λ (f : Flights). f.so_far) writes.flights)
     (subst (λ (f : Flights). AreAmong (accesses_of f.rows) (accesses_of (flights_of old.iommu).rows)) (sym writes.flights) (λ x there. there))
     (λ d is. ap (λ o. is_some o) (sym (writes.contexts d)) ∙ is)
-    (λ key translation at. sym (ap (λ (c : Translations). c key) writes.translations) ∙ at) [] has)
+    (λ key translation at. sym (ap (λ (c : Translations). c key) writes.translations) ∙ at) walks has)
 
-pub taken_waiting : (old new : Parts) (events : ℕ) (reply : Outcome) → PartsInvariant old events → DriverInvariant old.driver → TakesReport old reply new → waiting_in new ≡ waiting_in old
+pub taken_waiting : {walks : List Walk} (old new : Parts) (events : ℕ) (reply : Outcome) → InvariantWith walks old events → DriverInvariant old.driver → TakesReport old reply new → waiting_in new ≡ waiting_in old
 taken_waiting old new events reply invariants own takes =
     let writes = wrote old.driver old.memory old.iommu new.iommu takes.answer takes.call in
     ap (λ m. commands_in m (registers_of new.iommu)) takes.memory ∙ commands_by old.memory (registers_of old.iommu) (registers_of new.iommu) writes.commands
@@ -122,7 +123,7 @@ never_refused d why started refused = none_some (sym (ap (λ (b : Bool). first_t
     none_some : ◌≡◌ {A = Option Refusal} None (Some why) → ⊥
     none_some same = cc
 
-pub taken_step : (old new : Parts) (events : ℕ) (reply : Outcome) → PartsInvariant old events → TakesReport old reply new → (state : State) → PartsShow old state
+pub taken_step : {walks : List Walk} (old new : Parts) (events : ℕ) (reply : Outcome) → InvariantWith walks old events → TakesReport old reply new → (state : State) → PartsShow old state
     → machine.TakesRecord state reply state × PartsShow new state
 taken_step old new events reply invariants takes state shows = (
   subst (λ t. machine.TakesRecord state t state) (sym takes.reply_is) (by takes.answer takes.call),

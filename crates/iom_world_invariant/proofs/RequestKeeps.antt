@@ -1,5 +1,5 @@
 -- What stays true of a world when a device asks for an access: what is translated is held, and so no copy outlives it.
-use Rattle.std.proofs.Common.{◌≡◌, ◌+◌, ◌/◌, ◌^◌, ◌<◌, ◌≤◌, ◌⊎◌, ◌∙◌, inl, inr, ℕ, Bool, true, is_some, length, Option, Some, None, option_map, Result, Ok, Err, slice_get, refl, sym, ap, subst, arith, List, []}
+use Rattle.std.proofs.Common.{◌≡◌, ◌+◌, ◌/◌, ◌^◌, ◌<◌, ◌≤◌, ◌⊎◌, ◌∙◌, inl, inr, ℕ, Bool, true, is_some, length, Option, Some, None, option_map, Result, Ok, Err, slice_get, refl, sym, ap, subst, arith, List}
 use Rattle.iom_base.specs.declared.access.Access.{Access}
 use Rattle.iom_base.specs.declared.access.AccessKind.{AccessKind}
 use Rattle.iom_base.specs.declared.cause.Cause.{Cause}
@@ -34,7 +34,7 @@ use Rattle.iom_world_effects.specs.Read.{space_in, values_of, accesses_of}
 use Rattle.iom_world_effects.specs.Requests.{AsksAccess}
 use Rattle.iom_walk_coherence.specs.Walks.{Walk}
 use Rattle.iom_world_effects.specs.Scenes.{Values, copy_of, HasSceneWith}
-use Rattle.iom_world_effects.specs.Invariant.{PartsInvariant, row_ids}
+use Rattle.iom_world_effects.specs.Invariant.{InvariantWith, row_ids}
 use Rattle.iom_world_invariant.proofs.ContextKeeps.{KeepsAttached, keeps_attached, cached_or, contexts_kept}
 use Rattle.iom_world_effects.proofs.DriverLemmas.{DriverInvariant}
 use Rattle.iom_world_effects.proofs.CachedMay.{one_space}
@@ -193,7 +193,7 @@ settled_scene old new id grants queue flights keeps change walks has =
     (λ d there. there) (λ key translation at. at) walks (between_scene old new id keeps change walks has)
 
 -- where a record is put into the fault queue, memory changes in its frame alone
-pub record_leaves : (old new : Parts) (events : ℕ) (fields : Fields) (answer : Put) → PartsInvariant old events → StaysReported old.driver → new.driver ≡ old.driver → new.devices ≡ old.devices
+pub record_leaves : {walks : List Walk} (old new : Parts) (events : ℕ) (fields : Fields) (answer : Put) → InvariantWith walks old events → StaysReported old.driver → new.driver ≡ old.driver → new.devices ≡ old.devices
     → new.fabric ≡ old.fabric → frames_of new.iommu ≡ frames_of old.iommu → slots_of new.iommu ≡ slots_of old.iommu → flights_of new.iommu ≡ flights_of old.iommu
     → PutsRecord old.memory (registers_of old.iommu) fields answer new.memory (registers_of new.iommu) → LeavesReport old new
 record_leaves old new events fields answer invariants reported driver devices fabric frames slots flights recorded =
@@ -210,14 +210,14 @@ record_leaves old new events fields answer invariants reported driver devices fa
     }
 
 -- as where a request is refused, of whatever transaction
-pub report_leaves : {Served : Result Translation WalkFault → Translations → Type 0} {transaction : Transaction} (old new : Parts) (events id : ℕ) (access : Access) → PartsInvariant old events
+pub report_leaves : {walks : List Walk} {Served : Result Translation WalkFault → Translations → Type 0} {transaction : Transaction} (old new : Parts) (events id : ℕ) (access : Access) → InvariantWith walks old events
     → StaysReported old.driver → new.driver ≡ old.driver → new.devices ≡ old.devices → new.fabric ≡ old.fabric
     → (cause : Cause) → Refuses Served transaction old.memory old.iommu id access cause new.memory new.iommu → LeavesReport old new
 report_leaves {transaction = transaction} old new events id access invariants reported driver devices fabric cause call =
     record_leaves old new events (record_of (faulted_of id transaction access.address) (fault_of call.fault)) call.answer invariants reported driver devices fabric
     (ap (λ parts. parts.frames) call.rest) (ap (λ parts. parts.slots) call.rest) (ap (λ parts. parts.flights) call.rest) call.recorded
 
-module _ (laws : ServiceLaws) (old new : Parts) (events id : ℕ) (access : Access) (invariants : PartsInvariant old events) (own : DriverInvariant old.driver) (stays_ready : StaysReady old.driver) (report_ready : StaysReported old.driver)
+module _ {walks : List Walk} (laws : ServiceLaws) (old new : Parts) (events id : ℕ) (access : Access) (invariants : InvariantWith walks old events) (own : DriverInvariant old.driver) (stays_ready : StaysReady old.driver) (report_ready : StaysReported old.driver)
     (driver : new.driver ≡ old.driver) (devices : new.devices ≡ old.devices) (fabric : new.fabric ≡ old.fabric) (below : (flights_of old.iommu).so_far < events) where
   abbrev cached : ℕ → Bool
   cached d = is_some (contexts_of new.iommu d)
@@ -240,16 +240,16 @@ module _ (laws : ServiceLaws) (old new : Parts) (events id : ℕ) (access : Acce
 
   -- a request is refused, of whatever transaction: what is cached of translations stays, and the context that was found is kept
   pub keeps_refused : {Served : Result Translation WalkFault → Translations → Type 0} {transaction : Transaction} (cause : Cause) → Refuses Served transaction old.memory old.iommu id access cause new.memory new.iommu
-      → TranslationsUnchanged (translations_of old.iommu) (translations_of new.iommu) → PartsInvariant new events
+      → TranslationsUnchanged (translations_of old.iommu) (translations_of new.iommu) → InvariantWith walks new events
   keeps_refused cause call unchanged =
       let keeps = keeps_attached laws old events invariants own id (contexts_of new.iommu) call.contexts in
       let leaves = report_leaves old new events id access invariants report_ready driver devices fabric cause call in
       report_sound old new events invariants own leaves (subst (λ (f : Flights). f.so_far ≤ events) (sym (ap (λ parts. parts.flights) call.rest)) invariants.counted)
       (contexts_kept old new id invariants.contexts keeps driver)
       (settled_scene old new id (report_grants old new events invariants own leaves) (report_queue old new events invariants own leaves (ap (λ parts. parts.fence_snapshot) call.rest)) (ap (λ parts. parts.flights) call.rest) keeps
-      (inl (λ key translation at. sym (unchanged key) ∙ at)) [])
+      (inl (λ key translation at. sym (unchanged key) ∙ at)) walks)
 
-  keeps_fault : access.address < 2 ^ 64 → (cause : Cause) → RefusesRequest old.memory old.iommu id access cause new.memory new.iommu → PartsInvariant new events
+  keeps_fault : access.address < 2 ^ 64 → (cause : Cause) → RefusesRequest old.memory old.iommu id access cause new.memory new.iommu → InvariantWith walks new events
   keeps_fault fits cause call =
       keeps_refused cause call
       (served laws old events invariants own id access.address access.kind ioatc.SURE (translations_of old.iommu) (translations_of new.iommu) (Err call.fault) fits call.served).1
@@ -257,7 +257,7 @@ module _ (laws : ServiceLaws) (old new : Parts) (events id : ℕ) (access : Acce
   -- an access is accepted on the frame of a copy, which the scene has to serve it from
   pub keeps_accepted : {Served : Result Translation WalkFault → Translations → Type 0} (page : ℕ) (translation : Translation) → new.memory ≡ old.memory → (number : ℕ)
       → (call : IommuAccepts Served old.memory old.iommu id access number new.iommu) → call.frame ≡ translation.frame → allows translation.rights access.kind ≡ true
-      → TranslationsChange (values_of old) id (translations_of new.iommu) → HasSource (cached_so (values_of old) (λ d. is_some (contexts_of new.iommu d)) (translations_of new.iommu)) (copy_of id page translation) → PartsInvariant new events
+      → TranslationsChange (values_of old) id (translations_of new.iommu) → HasSource (cached_so (values_of old) (λ d. is_some (contexts_of new.iommu d)) (translations_of new.iommu)) (copy_of id page translation) → InvariantWith walks new events
   keeps_accepted page translation memory number call frame allowed change source =
       let keeps = keeps_attached laws old events invariants own id (contexts_of new.iommu) call.contexts in
       let is = call.accepted in
@@ -273,9 +273,9 @@ module _ (laws : ServiceLaws) (old new : Parts) (events id : ℕ) (access : Acce
       (subst (λ n. AreAmongWith (accesses_of (flights_of new.iommu).rows) (record { device = id; frame = n; kind = access.kind; number = so_far + 1 }) (accesses_of (flights_of old.iommu).rows)) frame
       (subst (λ (f : Flights). AreAmongWith (accesses_of f.rows) (record { device = id; frame = call.frame; kind = access.kind; number = so_far + 1 }) (accesses_of (flights_of old.iommu).rows)) (sym is.after)
       (accepted_among (flights_of old.iommu).rows id is.row (record { access = access; frame = call.frame }) (so_far + 1) is.stands)))
-      (λ d there. there) (λ key translation at. at) source allowed [] (between_scene old new id keeps change [] has))
+      (λ d there. there) (λ key translation at. at) source allowed walks (between_scene old new id keeps change walks has))
 
-  keeps_accept : access.address < 2 ^ 64 → new.memory ≡ old.memory → (number : ℕ) → AcceptsRequest old.memory old.iommu id access number new.iommu → PartsInvariant new events
+  keeps_accept : access.address < 2 ^ 64 → new.memory ≡ old.memory → (number : ℕ) → AcceptsRequest old.memory old.iommu id access number new.iommu → InvariantWith walks new events
   keeps_accept fits memory number call =
       let answer : Translation = record { frame = call.frame; rights = call.rights; order = call.order } in
       let answers = served laws old events invariants own id access.address access.kind ioatc.SURE (translations_of old.iommu) (translations_of new.iommu) (Ok answer) fits call.served in
@@ -284,20 +284,20 @@ module _ (laws : ServiceLaws) (old new : Parts) (events id : ℕ) (access : Acce
       (λ scene shows. source_there (between_values old new) scene id (access.address / 4096) from.0 from.1 shows from.4)
 
   -- nothing changes
-  pub keeps_same : new.memory ≡ old.memory → new.iommu ≡ old.iommu → PartsInvariant new events
+  pub keeps_same : new.memory ≡ old.memory → new.iommu ≡ old.iommu → InvariantWith walks new events
   keeps_same memory iommu =
-      subst (λ parts. PartsInvariant parts events) (sym (parts_are new old.memory old.iommu old.driver old.devices old.fabric memory iommu driver devices fabric)) invariants
+      subst (λ parts. InvariantWith walks parts events) (sym (parts_are new old.memory old.iommu old.driver old.devices old.fabric memory iommu driver devices fabric)) invariants
 
-  keeps_replied : access.address < 2 ^ 64 → (reply : Reply) → AnswersRequest old.memory old.iommu id access reply new.memory new.iommu → PartsInvariant new events
+  keeps_replied : access.address < 2 ^ 64 → (reply : Reply) → AnswersRequest old.memory old.iommu id access reply new.memory new.iommu → InvariantWith walks new events
   keeps_replied fits (Accepted number) call = keeps_accept fits call.1 number call.0
   keeps_replied fits Busy call = keeps_same call.3 call.2
   keeps_replied fits BadSpan call = keeps_same call.2 call.1
   keeps_replied fits (Fault cause) call = keeps_fault fits cause call
 
-pub keeps_asked : (can : DeviceKind → Bool) → ServiceLaws → (old new : Parts) (events id : ℕ) (access : Access) (response : Outcome) → PartsInvariant old events → DriverInvariant old.driver → StaysReady old.driver
-    → StaysReported old.driver → (flights_of old.iommu).so_far < events → access.address < 2 ^ 64 → AsksAccess can old id access response new → PartsInvariant new events
-keeps_asked can laws old new events id access response invariants own unchanged reported below fits asks = elim asks [
-  | inl unknown ↦ subst (λ parts. PartsInvariant parts events) (sym unknown.same) invariants
-  | inr (inl unable) ↦ subst (λ parts. PartsInvariant parts events) (sym unable.same) invariants
+pub keeps_asked : {walks : List Walk} (can : DeviceKind → Bool) → ServiceLaws → (old new : Parts) (events id : ℕ) (access : Access) (response : Outcome) → InvariantWith walks old events → DriverInvariant old.driver → StaysReady old.driver
+    → StaysReported old.driver → (flights_of old.iommu).so_far < events → access.address < 2 ^ 64 → AsksAccess can old id access response new → InvariantWith walks new events
+keeps_asked {walks = walks} can laws old new events id access response invariants own unchanged reported below fits asks = elim asks [
+  | inl unknown ↦ subst (λ parts. InvariantWith walks parts events) (sym unknown.same) invariants
+  | inr (inl unable) ↦ subst (λ parts. InvariantWith walks parts events) (sym unable.same) invariants
   | inr (inr answered) ↦ keeps_replied laws old new events id access invariants own unchanged reported answered.1.driver answered.1.devices answered.1.fabric below fits answered.1.reply answered.1.call
 ]

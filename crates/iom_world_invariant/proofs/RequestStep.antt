@@ -1,6 +1,7 @@
 -- A request is a lawful step of the ledger machine.
 use Rattle.std.proofs.Common.{◌≡◌, ◌+◌, ◌/◌, ◌^◌, ◌<◌, ◌∙◌, ◌∷◌, ◌++◌, inl, inr, ℕ, Bool, true, false, List, [], length, map, Some, Ok, Err, option_map, slice_get, refl, sym, ap, subst, arith}
 use Rattle.std.proofs.lemmas.List.{length-map}
+use Rattle.iom_walk_coherence.specs.Walks.{Walk}
 use Rattle.iom_base.specs.declared.access.AcceptedAccess.{AcceptedAccess}
 use Rattle.iom_base.specs.declared.access.Access.{Access}
 use Rattle.iom_base.specs.declared.cause.Cause.{Cause}
@@ -44,7 +45,7 @@ use Rattle.iom_world_effects.specs.Places.{IsAbsent}
 use Rattle.iom_world_effects.specs.Read.{space_in}
 use Rattle.iom_world_effects.specs.Requests.{AsksAccess, outcome_of_reply}
 use Rattle.iom_world_effects.specs.Shows.{PartsShow}
-use Rattle.iom_world_effects.specs.Invariant.{PartsInvariant}
+use Rattle.iom_world_effects.specs.Invariant.{InvariantWith}
 use Rattle.iom_world_effects.proofs.DriverLemmas.{DriverInvariant}
 use Rattle.iom_world_effects.proofs.RowPlaces.{IsFound, absent_shown, present_found, row_shown, accepted_at, in_flight_at, with_own}
 use Rattle.iom_world_effects.proofs.RowLemmas.{map_push}
@@ -107,7 +108,7 @@ none_held_shown state ledger id access agrees none frame held =
     none frame (held.0, sym (agrees.pages id (access.address / 4096)).holds ∙ held.1, held.2)
 
 -- what the machine lets an attached device be accepted, and each fault
-may_accept : (parts : Parts) (events : ℕ) (state : State) (id : ℕ) (answer : Translation) (access : Access) (sure : Bool) (old new : Translations) → PartsInvariant parts events → DriverInvariant parts.driver → PartsShow parts state
+may_accept : {walks : List Walk} (parts : Parts) (events : ℕ) (state : State) (id : ℕ) (answer : Translation) (access : Access) (sure : Bool) (old new : Translations) → InvariantWith walks parts events → DriverInvariant parts.driver → PartsShow parts state
     → old ≡ translations_of parts.iommu → IsAnswered sure parts.driver id access.address access.kind old (Ok answer) new
     → MayAccept (shown_attachment (attachment_by_id parts.driver.devices id)) state id access answer.frame
 may_accept parts events state id answer access sure old new invariants own shows same (inl reaches) =
@@ -180,7 +181,7 @@ shows_flights old new state memory driver devices flights shows = record {
   limits = shows.limits;
 }
 
-module _ (old new : Parts) (events id : ℕ) (invariants : PartsInvariant old events) (state : State) (shows : PartsShow old state)
+module _ {walks : List Walk} (old new : Parts) (events id : ℕ) (invariants : InvariantWith walks old events) (state : State) (shows : PartsShow old state)
     (is : IsFound old.driver.devices (flights_of old.iommu).rows old.devices id) where
   abbrev rows : List FlightRow
   rows = (flights_of old.iommu).rows
@@ -241,7 +242,7 @@ module _ (old new : Parts) (events id : ℕ) (invariants : PartsInvariant old ev
         },
       )
 
-module _ (can : DeviceKind → Bool) (laws : ServiceLaws) (old new : Parts) (events id : ℕ) (access : Access) (invariants : PartsInvariant old events) (own : DriverInvariant old.driver) (fits : access.address < 2 ^ 64)
+module _ {walks : List Walk} (can : DeviceKind → Bool) (laws : ServiceLaws) (old new : Parts) (events id : ℕ) (access : Access) (invariants : InvariantWith walks old events) (own : DriverInvariant old.driver) (fits : access.address < 2 ^ 64)
     (reported : StaysReported old.driver) (driver : new.driver ≡ old.driver) (devices : new.devices ≡ old.devices) (state : State) (shows : PartsShow old state)
     (is : IsFound old.driver.devices (flights_of old.iommu).rows old.devices id) (able : can is.device.kind ≡ true) (fabric : new.fabric ≡ old.fabric) where
   abbrev MayTell : ℕ → State → Outcome → machine.Device → Type 0
@@ -298,7 +299,7 @@ module _ (can : DeviceKind → Bool) (laws : ServiceLaws) (old new : Parts) (eve
   step_replied BadSpan call = step_same outcome.BadSpan call.0 refl (same_frames call.2) (ap flights_of call.1)
   step_replied (Fault cause) call = step_fault cause call
 
-pub request_step : (can : DeviceKind → Bool) → ServiceLaws → (old new : Parts) (events id : ℕ) (access : Access) (response : Outcome) → PartsInvariant old events → DriverInvariant old.driver → StaysReported old.driver
+pub request_step : {walks : List Walk} (can : DeviceKind → Bool) → ServiceLaws → (old new : Parts) (events id : ℕ) (access : Access) (response : Outcome) → InvariantWith walks old events → DriverInvariant old.driver → StaysReported old.driver
     → access.address < 2 ^ 64 → AsksAccess can old id access response new
     → (state : State) → PartsShow old state → (frame : ℕ) × (next : State) × RequestsAs can frame state id access response next × PartsShow new next
 request_step can laws old new events id access response invariants own reported fits asks state shows = elim asks [

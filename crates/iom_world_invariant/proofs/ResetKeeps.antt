@@ -3,6 +3,8 @@ use Rattle.std.proofs.Common.{◌≡◌, ◌+◌, ◌<◌, ◌≤◌, ◌==◌, 
 use Rattle.std.specs.Option.{option_map}
 use Rattle.std.proofs.lemmas.Bool.{eqb-true}
 use Rattle.std.proofs.lemmas.List.Elements.{All-contains}
+use Rattle.iom_walk_coherence.specs.Transitions.{AreOfOthers}
+use Rattle.iom_walk_coherence.specs.Walks.{Walk}
 use Rattle.iom_ats_cache.specs.Cache.{Cache}
 use Rattle.iom_command_queue.specs.OpenSlots.{OpenSlots}
 use Rattle.iom_coherence.specs.Attachments.{caches_translations}
@@ -25,13 +27,14 @@ use Rattle.iom_world_effects.specs.Read.{values_of}
 use Rattle.iom_device.specs.Calls.{reset_of, with_reset}
 use Rattle.iom_world_effects.specs.Recovery.{ResetsDevice}
 use Rattle.iom_world_effects.specs.Shows.{PartsShow}
-use Rattle.iom_world_effects.specs.Invariant.{PartsInvariant, AreKnown, HaveDistinctIds, known_ids}
+use Rattle.iom_world_effects.specs.Invariant.{InvariantWith, AreKnown, HaveDistinctIds, known_ids}
 use Rattle.iom_world_effects.specs.Traffic.{entries_by, entries_in, traffic_of}
 use Rattle.iom_world_effects.proofs.CacheSets.{kind_set, asker_set, epoch_set, ids_set, own_ids_set, caches_set, same_set, entries_set, shown_set}
 use Rattle.iom_world_effects.proofs.CallRefused.{same_parts}
 use Rattle.iom_world_effects.proofs.PresentLemmas.{kind_present}
 use Rattle.iom_world_effects.proofs.ResetScenes.{reset_scene}
 use Rattle.iom_world_effects.proofs.RowPlaces.{absent_shown, present_found}
+use Rattle.iom_world_effects.proofs.WalksLeft.{AreLeft, given_up}
 use Rattle.iom_world_effects.proofs.TrafficSound.{keeps_iommu, KeepsParts, rest_kept, traffic_sound}
 
 -- THE DEVICES
@@ -134,9 +137,9 @@ found_there devices id kind at = by (device_with devices id) at
     by None at = cc
     by (Some device) at = refl
 
-pub reset_sound : (old : Parts) (events id : ℕ) → PartsInvariant old events → epoch_in old.devices id < events → is_some (device_with old.devices id) ≡ true
-    → PartsInvariant (record old { devices = with_reset old.devices id }) events
-reset_sound old events id invariants below found =
+pub reset_sound : {walks left : List Walk} (old : Parts) (events id : ℕ) → InvariantWith walks old events → AreOfOthers left id walks → epoch_in old.devices id < events → is_some (device_with old.devices id) ≡ true
+    → InvariantWith left (record old { devices = with_reset old.devices id }) events
+reset_sound {walks = walks} {left = left} old events id invariants of_others below found =
     let new : Parts = record old { devices = with_reset old.devices id } in
     let keeps : KeepsParts old new = record { memory = refl; driver = refl; iommu = keeps_iommu old.iommu old.iommu refl; kinds = kind_set old.devices id (reset_of (cache_of old.devices id)) } in
     traffic_sound old new events invariants keeps
@@ -144,13 +147,14 @@ reset_sound old events id invariants below found =
     (reset_epochs old.devices events id invariants.known.caches invariants.epochs below)
     (reset_scene (values_of old) (values_of new) id (entries_in (with_reset old.devices id)) (rest_kept old new keeps)
     (reset_under_way old.devices old.fabric (slots_of old.iommu) id invariants.known.caches)
-    (reset_others old.devices id invariants.known.own_ids found) [] [] (λ walk there. absurd (in_none walk there)))
+    (reset_others old.devices id invariants.known.own_ids found) walks left of_others)
 
--- ALL STAYS TRUE
-pub keeps_reset : (old new : Parts) (events id : ℕ) (reply : Outcome) → PartsInvariant old events → epoch_in old.devices id < events → ResetsDevice old id reply new → PartsInvariant new events
-keeps_reset old new events id reply invariants below resets = elim resets [
-  | inl unknown ↦ subst (λ parts. PartsInvariant parts events) (sym unknown.same) invariants
-  | inr (able, reply_is, is) ↦ subst (λ parts. PartsInvariant parts events) (sym is) (reset_sound old events id invariants below (found_there old.devices id able.0 able.1))
+-- ALL STAYS TRUE: walks of the device are given up, where it is reset
+pub keeps_reset : {walks left : List Walk} (old new : Parts) (events id : ℕ) (reply : Outcome) → InvariantWith walks old events → epoch_in old.devices id < events → ResetsDevice old id reply new
+    → AreLeft (reply ≡ outcome.Done) id left walks → InvariantWith left new events
+keeps_reset {left = left} old new events id reply invariants below resets are_left = elim resets [
+  | inl unknown ↦ subst (λ parts. InvariantWith left parts events) (sym unknown.same) (given_up old events are_left.0 invariants)
+  | inr (able, reply_is, is) ↦ subst (λ parts. InvariantWith left parts events) (sym is) (reset_sound old events id invariants (are_left.1 reply_is) below (found_there old.devices id able.0 able.1))
 ]
 
 -- what the machine knows of the devices is the same

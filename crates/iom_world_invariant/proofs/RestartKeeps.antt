@@ -3,6 +3,7 @@ use Rattle.std.proofs.Common.{◌≡◌, ◌+◌, ◌^◌, ◌<◌, ◌≤◌, �
 use Rattle.std.specs.Option.{option_map}
 use Rattle.std.proofs.Math.Logic.{∥∥₁_map}
 use Rattle.std.proofs.Math.Nat.{max-eq_right}
+use Rattle.iom_walk_coherence.specs.Walks.{Walk}
 use Rattle.iom_command_queue.specs.declared.entry.QueueEntry.{QueueEntry}
 use Rattle.iom_command_queue.specs.declared.entry.QueueEntry.TheVariants as stands
 use Rattle.iom_command_queue.specs.OpenSlots.{OpenSlots}
@@ -32,7 +33,7 @@ use Rattle.iom_iommu.specs.OwnIommu.{Iommu}
 use Rattle.iom_world_effects.specs.Parts.{Parts}
 use Rattle.iom_world_effects.specs.Read.{values_of, accesses_of}
 use Rattle.iom_world_effects.specs.Recovery.{RestartsQueue}
-use Rattle.iom_world_effects.specs.Invariant.{PartsInvariant, IsUnmarked, known_ids, row_ids}
+use Rattle.iom_world_effects.specs.Invariant.{InvariantWith, IsUnmarked, known_ids, row_ids}
 use Rattle.iom_world_effects.specs.Traffic.{traffic_of}
 use Rattle.iom_world_effects.proofs.CachedLemmas.{spaces_same}
 use Rattle.iom_world_effects.proofs.DriverLemmas.{DriverInvariant}
@@ -95,7 +96,7 @@ given_to d own id ticket mode ats (attached.Leaving other stage) at is =
 waits_for_it : (d : DriverState) (ticket : ℕ) → ticket ≤ d.given → fence_of (record d { restarts = d.restarts + 1; restarted = d.given }) ticket ≡ last_fence d + 1
 waits_for_it d ticket low = ap (λ n. n + (d.restarts + 1)) (max-eq_right low) ∙ omega arith
 
-module _ (old new : Parts) (events : ℕ) (invariants : PartsInvariant old events) (own : DriverInvariant old.driver) (ready : IsReady new.driver new.memory (registers_of new.iommu))
+module _ {walks : List Walk} (old new : Parts) (events : ℕ) (invariants : InvariantWith walks old events) (own : DriverInvariant old.driver) (ready : IsReady new.driver new.memory (registers_of new.iommu))
     (queues : QueuesRestart mmio old.driver old.memory old.iommu new.driver new.memory new.iommu)
     (devices : new.devices ≡ old.devices) (fabric : new.fabric ≡ old.fabric) where
   emptied : IsEmptied old.iommu new.iommu
@@ -147,7 +148,7 @@ module _ (old new : Parts) (events : ℕ) (invariants : PartsInvariant old event
     traffic = traffic_now;
   }
 
-  pub restarted_sound : PartsInvariant new events
+  pub restarted_sound : InvariantWith walks new events
   restarted_sound = record {
     ready = ready;
     started = ap (λ (d : DriverState). d.started) queues.driver ∙ invariants.started;
@@ -159,13 +160,13 @@ module _ (old new : Parts) (events : ℕ) (invariants : PartsInvariant old event
     serials = subst (λ (s : OpenSlots). s.last ≤ events) (sym emptied.slots) invariants.serials;
     epochs = same_epochs old new events invariants devices;
     contexts = λ id context at. ap (λ (ds : List Known). option_map context_for (owned_stages_of ds id)) same_devices ∙ invariants.contexts id context (sym (emptied.contexts id) ∙ at);
-    copies = ∥∥₁_map invariants.copies (restart_scene (values_of old) (values_of new) (known_ids old.driver.devices) commands restarts_all []);
+    copies = ∥∥₁_map invariants.copies (restart_scene (values_of old) (values_of new) (known_ids old.driver.devices) commands restarts_all walks);
   }
 
-pub keeps_restarted : (old new : Parts) (events : ℕ) (reply : Outcome) → PartsInvariant old events → DriverInvariant old.driver → IsReady new.driver new.memory (registers_of new.iommu)
-    → RestartsQueue old reply new → PartsInvariant new events
-keeps_restarted old new events reply invariants own ready restarts = by restarts.answer restarts.call
+pub keeps_restarted : {walks : List Walk} (old new : Parts) (events : ℕ) (reply : Outcome) → InvariantWith walks old events → DriverInvariant old.driver → IsReady new.driver new.memory (registers_of new.iommu)
+    → RestartsQueue old reply new → InvariantWith walks new events
+keeps_restarted {walks = walks} old new events reply invariants own ready restarts = by restarts.answer restarts.call
   where
-    by : (answer : Result (Unit {0}) Refusal) → AnswersRestart mmio old.driver old.memory old.iommu answer new.driver new.memory new.iommu → PartsInvariant new events
+    by : (answer : Result (Unit {0}) Refusal) → AnswersRestart mmio old.driver old.memory old.iommu answer new.driver new.memory new.iommu → InvariantWith walks new events
     by (Ok done) (admitted, queues) = restarted_sound old new events invariants own ready queues restarts.devices restarts.fabric
     by (Err why) (refused, driver_stays, memory_stays, iommu_stays) = rw (driver_stays, memory_stays, iommu_stays, restarts.devices, restarts.fabric) invariants

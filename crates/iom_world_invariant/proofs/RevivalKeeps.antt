@@ -4,6 +4,8 @@ use Rattle.std.specs.Option.{option_map}
 use Rattle.std.proofs.Math.Logic.{∥∥₁_map}
 use Rattle.std.proofs.lemmas.Bool.{false≢true, leb-false}
 use Rattle.std.proofs.lemmas.Bool.Decides.{eqb_tells}
+use Rattle.iom_walk_coherence.specs.Transitions.{AreOfOthers}
+use Rattle.iom_walk_coherence.specs.Walks.{Walk}
 use Rattle.iom_device_dir.specs.Paths.{ids_below}
 use Rattle.iom_directory_build.specs.Pages.{HasPage, root_level}
 use Rattle.iom_driver.specs.declared.device.Attachment.TheVariants.{Attached}
@@ -22,17 +24,18 @@ use Rattle.iom_base.specs.declared.refusal.Refusal.{Refusal}
 use Rattle.iom_base.specs.declared.refusal.Refusal.TheVariants.{NoSuchDevice, StillGranted}
 use Rattle.iom_base.specs.Refusals.{NoneApplies}
 use Rattle.iom_machine.specs.declared.outcome.Outcome.{Outcome}
+use Rattle.iom_machine.specs.declared.outcome.Outcome.TheVariants as outcome
 use Rattle.iom_base.specs.declared.device_kind.DeviceKind.{DeviceKind}
 use Rattle.iom_registers.specs.Queues.{command_status}
 use Rattle.iom_device.specs.declared.device.Device.{Device}
 use Rattle.iom_device.specs.Caches.{cache_of, device_with, epoch_in, kind_in}
-use Rattle.iom_coherence.proofs.ListLemmas.{in_none}
+use Rattle.iom_world_effects.specs.Answers.{outcome_of_done}
 use Rattle.iom_world_effects.specs.Devices.{shown_attachment}
 use Rattle.iom_world_effects.specs.Parts.{Parts}
 use Rattle.iom_world_effects.specs.Read.{values_of, accesses_of}
 use Rattle.iom_device.specs.Calls.{reset_of, with_reset, devices_revived}
 use Rattle.iom_world_effects.specs.Recovery.{RevivesDevice}
-use Rattle.iom_world_effects.specs.Invariant.{PartsInvariant, known_ids}
+use Rattle.iom_world_effects.specs.Invariant.{InvariantWith, known_ids}
 use Rattle.iom_world_effects.specs.Traffic.{entries_in, traffic_of}
 use Rattle.iom_world_effects.proofs.CacheSets.{kind_set}
 use Rattle.iom_world_effects.proofs.CachedLemmas.{spaces_owned}
@@ -42,18 +45,19 @@ use Rattle.iom_world_effects.proofs.DriverLemmas.{DriverInvariant}
 use Rattle.iom_world_invariant.proofs.HungKeeps.{hung_keeps}
 use Rattle.iom_world_effects.proofs.PresentLemmas.{kind_absent, known_absent}
 use Rattle.iom_world_invariant.proofs.ResetKeeps.{found_there, reset_epochs, reset_others, reset_under_way, reset_known}
+use Rattle.iom_world_effects.proofs.WalksLeft.{AreLeft, given_up}
 use Rattle.iom_world_effects.proofs.RevivalScenes.{RevivesOne, revival_scene}
 use Rattle.iom_world_effects.proofs.InvariantLemmas.{same_completed, LeavesWord, same_iommu, sound_from, same_waiting, none_at}
 
 -- a device that the driver knows is there
-known_there : (parts : Parts) (events id : ℕ) → PartsInvariant parts events → has_device parts.driver.devices id ≡ true → is_some (device_with parts.devices id) ≡ true
+known_there : {walks : List Walk} (parts : Parts) (events id : ℕ) → InvariantWith walks parts events → has_device parts.driver.devices id ≡ true → is_some (device_with parts.devices id) ≡ true
 known_there parts events id invariants there = by (kind_in parts.devices id) refl
   where
     by : (kind : Option DeviceKind) → kind_in parts.devices id ≡ kind → is_some (device_with parts.devices id) ≡ true
     by (Some kind) is = found_there parts.devices id kind is
     by None is = absurd (false≢true (sym (known_absent parts.driver.devices parts.devices id invariants.known.driver (kind_absent parts.devices id is)) ∙ there))
 
-module _ (old new : Parts) (events id : ℕ) (invariants : PartsInvariant old events) (own : DriverInvariant old.driver) (admitted : NoneApplies (why_not_revive old.driver id))
+module _ {walks : List Walk} (old new : Parts) (events id : ℕ) (invariants : InvariantWith walks old events) (own : DriverInvariant old.driver) (admitted : NoneApplies (why_not_revive old.driver id))
     (writes : WritesContextAgain old.driver old.memory id new.driver new.memory) where
   -- a frame that is no page of the directory keeps its bytes
   again_keeps : (f : ℕ) → ((g : ℕ) → HasPage old.memory (root_level old.driver.levels) (directory_frame (length old.memory)) g → f ≢ g) → slice_get new.memory f ≡ slice_get old.memory f
@@ -91,7 +95,7 @@ module _ (old new : Parts) (events id : ℕ) (invariants : PartsInvariant old ev
         | inr ne ↦ ap owned_stages (attachment_other old.driver.devices id other (Attached writes.stage) ne.1)
       ]
 
-module _ (old new : Parts) (events id : ℕ) (invariants : PartsInvariant old events) (own : DriverInvariant old.driver) (ready : IsReady new.driver new.memory (registers_of new.iommu))
+module _ {walks : List Walk} (old new : Parts) (events id : ℕ) (invariants : InvariantWith walks old events) (own : DriverInvariant old.driver) (ready : IsReady new.driver new.memory (registers_of new.iommu))
     (below : epoch_in old.devices id < events) (admitted : NoneApplies (why_not_revive old.driver id)) (writes : WritesContextAgain old.driver old.memory id new.driver new.memory)
     (devices : new.devices ≡ with_reset old.devices id) (iommu : new.iommu ≡ old.iommu) (fabric : new.fabric ≡ old.fabric) where
   leaves : LeavesWord old new
@@ -132,8 +136,8 @@ module _ (old new : Parts) (events id : ℕ) (invariants : PartsInvariant old ev
     stopped = ap (λ i. (command_status (registers_of i)).cmd_to) iommu;
   }
 
-  pub revived_sound : PartsInvariant new events
-  revived_sound =
+  pub revived_sound : {left : List Walk} → AreOfOthers left id walks → InvariantWith left new events
+  revived_sound {left = left} of_others =
       sound_from old new events invariants leaves (same_iommu old new iommu) (ap (λ (d : DriverState). d.started) writes.driver) ready
       (reset_known old new id invariants.known devices
       (ap (λ (d : DriverState). known_ids d.devices) writes.driver ∙ ids_set old.driver.devices id (Attached writes.stage))
@@ -142,13 +146,15 @@ module _ (old new : Parts) (events id : ℕ) (invariants : PartsInvariant old ev
       (subst (λ (d : DriverState). d.given < 2 ^ 32) (sym writes.driver) invariants.small)
       (λ other context cached.
       ap (option_map context_for) (owned_still old new events id invariants own admitted writes other) ∙ invariants.contexts other context (ap (λ i. contexts_of i other) (sym iommu) ∙ cached))
-      (∥∥₁_map invariants.copies (revival_scene (values_of old) (values_of new) id (entries_in (with_reset old.devices id)) revives_one [] [] (λ walk there. absurd (in_none walk there))))
+      (∥∥₁_map invariants.copies (revival_scene (values_of old) (values_of new) id (entries_in (with_reset old.devices id)) revives_one walks left of_others))
 
--- ALL STAYS TRUE
-pub keeps_revived : (old new : Parts) (events id : ℕ) (reply : Outcome) → PartsInvariant old events → DriverInvariant old.driver → IsReady new.driver new.memory (registers_of new.iommu)
-    → epoch_in old.devices id < events → RevivesDevice old id reply new → PartsInvariant new events
-keeps_revived old new events id reply invariants own ready below revives = by revives.answer revives.call revives.devices
+-- ALL STAYS TRUE: walks of the device are given up
+pub keeps_revived : {walks left : List Walk} (old new : Parts) (events id : ℕ) (reply : Outcome) → InvariantWith walks old events → DriverInvariant old.driver → IsReady new.driver new.memory (registers_of new.iommu)
+    → epoch_in old.devices id < events → RevivesDevice old id reply new → AreLeft (reply ≡ outcome.Done) id left walks → InvariantWith left new events
+keeps_revived {left = left} old new events id reply invariants own ready below revives are_left = by revives.answer revives.reply_is revives.call revives.devices
   where
-    by : (answer : Result (Unit {0}) Refusal) → AnswersRevive old.driver old.memory id answer new.driver new.memory → new.devices ≡ devices_revived answer old.devices id → PartsInvariant new events
-    by (Ok done) (admitted, writes) devices = revived_sound old new events id invariants own ready below admitted writes devices revives.iommu revives.fabric
-    by (Err why) (refused, driver_stays, memory_stays) devices = rw (memory_stays, revives.iommu, driver_stays, devices, revives.fabric) invariants
+    by : (answer : Result (Unit {0}) Refusal) → reply ≡ outcome_of_done answer → AnswersRevive old.driver old.memory id answer new.driver new.memory → new.devices ≡ devices_revived answer old.devices id
+        → InvariantWith left new events
+    by (Ok done) reply_is (admitted, writes) devices =
+        revived_sound old new events id invariants own ready below admitted writes devices revives.iommu revives.fabric (are_left.1 reply_is)
+    by (Err why) reply_is (refused, driver_stays, memory_stays) devices = rw (memory_stays, revives.iommu, driver_stays, devices, revives.fabric) (given_up old events are_left.0 invariants)

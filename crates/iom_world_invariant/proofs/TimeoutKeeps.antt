@@ -24,7 +24,7 @@ use Rattle.iom_world_effects.specs.Read.{values_of}
 use Rattle.iom_world_effects.specs.Recovery.{TimesOutFence}
 use Rattle.iom_world_effects.specs.Scenes.{Values, HasSceneWith}
 use Rattle.iom_world_effects.specs.Shows.{PartsShow}
-use Rattle.iom_world_effects.specs.Invariant.{PartsInvariant}
+use Rattle.iom_world_effects.specs.Invariant.{InvariantWith}
 use Rattle.iom_world_effects.specs.Traffic.{Traffic}
 use Rattle.iom_world_effects.proofs.PartsLemmas.{parts_are}
 use Rattle.iom_world_effects.proofs.UnchangedLemmas.{shows_same}
@@ -86,8 +86,8 @@ ready_still d memory r ready = record {
   directory = λ started. let names = ready.directory started in record { mode = names.mode; root = names.root };
 }
 
-stopped_sound : (parts : Parts) (events : ℕ) → PartsInvariant parts events → PartsInvariant (stopped_parts parts) events
-stopped_sound parts events invariants = record {
+stopped_sound : {walks : List Walk} (parts : Parts) (events : ℕ) → InvariantWith walks parts events → InvariantWith walks (stopped_parts parts) events
+stopped_sound {walks = walks} parts events invariants = record {
   ready = ready_still parts.driver parts.memory (registers_of parts.iommu) invariants.ready;
   started = invariants.started;
   unmarked = record { loaded = invariants.unmarked.loaded; legal = invariants.unmarked.legal };
@@ -106,7 +106,7 @@ stopped_sound parts events invariants = record {
   epochs = invariants.epochs;
   contexts = invariants.contexts;
   copies = ∥∥₁_map invariants.copies
-      (timeout_scene (values_of parts) (values_of (stopped_parts parts)) (ap (λ l. record (stopped_values (values_of parts)) { waiting = l }) (same_list parts.memory (registers_of parts.iommu))) []);
+      (timeout_scene (values_of parts) (values_of (stopped_parts parts)) (ap (λ l. record (stopped_values (values_of parts)) { waiting = l }) (same_list parts.memory (registers_of parts.iommu))) walks);
 }
 
 -- the parts are the same, or those of a fence that was given up
@@ -115,11 +115,11 @@ stopped_or_same : (old new : Parts) (reply : Outcome) (answer : Bool) → TimesO
 stopped_or_same old new reply true effect call = parts_are new old.memory (timed_out old.iommu) old.driver old.devices old.fabric effect.memory call.1 effect.driver effect.devices effect.fabric
 stopped_or_same old new reply false effect call = parts_are new old.memory old.iommu old.driver old.devices old.fabric effect.memory call.1 effect.driver effect.devices effect.fabric
 
-pub keeps_timed_out : (old new : Parts) (events : ℕ) (reply : Outcome) → PartsInvariant old events → TimesOutFence old reply new → PartsInvariant new events
-keeps_timed_out old new events reply invariants effect =
-    subst (λ (p : Parts). PartsInvariant p events) (sym (stopped_or_same old new reply effect.answer effect effect.call)) (by effect.answer)
+pub keeps_timed_out : {walks : List Walk} (old new : Parts) (events : ℕ) (reply : Outcome) → InvariantWith walks old events → TimesOutFence old reply new → InvariantWith walks new events
+keeps_timed_out {walks = walks} old new events reply invariants effect =
+    subst (λ (p : Parts). InvariantWith walks p events) (sym (stopped_or_same old new reply effect.answer effect effect.call)) (by effect.answer)
   where
-    by : (answer : Bool) → PartsInvariant (if answer then stopped_parts old else old) events
+    by : (answer : Bool) → InvariantWith walks (if answer then stopped_parts old else old) events
     by true = stopped_sound old events invariants
     by false = invariants
 

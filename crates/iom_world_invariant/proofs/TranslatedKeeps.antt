@@ -1,7 +1,8 @@
 -- What stays true of a world when a raw device says of a request that it is translated: no context lets it through, and no copy outlives what it copies.
-use Rattle.std.proofs.Common.{◌≡◌, ◌<◌, ◌⊎◌, ◌∙◌, inl, inr, ℕ, Bool, true, false, Some, Result, Ok, Err, refl, sym, ap, subst, if◌then◌else◌}
+use Rattle.std.proofs.Common.{◌≡◌, ◌<◌, ◌⊎◌, ◌∙◌, inl, inr, ℕ, Bool, true, false, Some, Result, Ok, Err, refl, sym, ap, subst, if◌then◌else◌, List}
 use Rattle.std.proofs.lemmas.Bool.{false≢true}
 use Rattle.std.proofs.lemmas.Grind.{not_there}
+use Rattle.iom_walk_coherence.specs.Walks.{Walk}
 use Rattle.iom_base.specs.declared.access.Access.{Access}
 use Rattle.iom_base.specs.declared.cause.Cause.{Cause}
 use Rattle.iom_base.specs.declared.cause.Cause.TheVariants.{TransactionTypeDisallowed}
@@ -29,7 +30,7 @@ use Rattle.iom_device.specs.Caches.{kind_in}
 use Rattle.iom_world_effects.specs.Devices.{shown_attachment}
 use Rattle.iom_world_effects.specs.Parts.{Parts}
 use Rattle.iom_world_effects.specs.Requests.{AsksTranslated}
-use Rattle.iom_world_effects.specs.Invariant.{PartsInvariant}
+use Rattle.iom_world_effects.specs.Invariant.{InvariantWith}
 use Rattle.iom_world_effects.proofs.AtsContexts.{FindsAts, finds_ats}
 use Rattle.iom_world_effects.proofs.DriverLemmas.{DriverInvariant}
 use Rattle.iom_world_effects.proofs.PartsLemmas.{StaysReady, StaysReported}
@@ -44,7 +45,7 @@ forges_uncached Block is = absurd (false≢true is)
 forges_uncached CachedBlock is = absurd (false≢true is)
 
 -- and one without a cache was never attached with ATS
-pub uncached_plain : (parts : Parts) (events id : ℕ) (kind : DeviceKind) → PartsInvariant parts events → kind_in parts.devices id ≡ Some kind → has_cache kind ≡ false
+pub uncached_plain : {walks : List Walk} (parts : Parts) (events id : ℕ) (kind : DeviceKind) → InvariantWith walks parts events → kind_in parts.devices id ≡ Some kind → has_cache kind ≡ false
     → has_ats (shown_attachment (attachment_by_id parts.driver.devices id)) ≡ false
 uncached_plain parts events id kind invariants there uncached = by (has_ats (shown_attachment (attachment_by_id parts.driver.devices id))) refl
   where
@@ -70,7 +71,7 @@ not_let_by (Leaving ticket stage) d id found plain_one (inr is) =
     (TransactionTypeDisallowed, is ∙ ap (λ (b : Bool). if b then Ok (context_for stage) else Err TransactionTypeDisallowed) plain_one, inl refl)
 
 -- WHAT A FORGED REQUEST FINDS
-pub not_let : ServiceLaws → (parts : Parts) (events id : ℕ) (kind : DeviceKind) → PartsInvariant parts events → DriverInvariant parts.driver → kind_in parts.devices id ≡ Some kind → forges kind ≡ true
+pub not_let : {walks : List Walk} → ServiceLaws → (parts : Parts) (events id : ℕ) (kind : DeviceKind) → InvariantWith walks parts events → DriverInvariant parts.driver → kind_in parts.devices id ≡ Some kind → forges kind ≡ true
     → (cause : Cause) × (ats_context_for parts.memory (registers_of parts.iommu) (contexts_of parts.iommu) id ≡ Err cause)
     × IsNotLet (attachment_by_id parts.driver.devices id) parts.driver.levels id cause
 not_let laws parts events id kind invariants own there able =
@@ -87,18 +88,18 @@ never_accepted old id access number new cause found call =
     ok_err : (translation : Translation) (fault : WalkFault) → ◌≡◌ {A = Result Translation WalkFault} (Ok translation) (Err fault) → ⊥
     ok_err translation fault same = cc
 
-pub keeps_translated : ServiceLaws → (old new : Parts) (events id : ℕ) (access : Access) (answer : Outcome) → PartsInvariant old events → DriverInvariant old.driver → StaysReady old.driver
-    → StaysReported old.driver → (flights_of old.iommu).so_far < events → AsksTranslated old id access answer new → PartsInvariant new events
-keeps_translated laws old new events id access answer invariants own unchanged reported below asks = elim asks [
-  | inl unknown ↦ subst (λ parts. PartsInvariant parts events) (sym unknown.same) invariants
-  | inr (inl unable) ↦ subst (λ parts. PartsInvariant parts events) (sym unable.same) invariants
+pub keeps_translated : {walks : List Walk} → ServiceLaws → (old new : Parts) (events id : ℕ) (access : Access) (answer : Outcome) → InvariantWith walks old events → DriverInvariant old.driver → StaysReady old.driver
+    → StaysReported old.driver → (flights_of old.iommu).so_far < events → AsksTranslated old id access answer new → InvariantWith walks new events
+keeps_translated {walks = walks} laws old new events id access answer invariants own unchanged reported below asks = elim asks [
+  | inl unknown ↦ subst (λ parts. InvariantWith walks parts events) (sym unknown.same) invariants
+  | inr (inl unable) ↦ subst (λ parts. InvariantWith walks parts events) (sym unable.same) invariants
   | inr (inr answered) ↦
       let found = not_let laws old events id answered.0.0 invariants own answered.0.1 answered.0.2 in
       by found.0 found.1 answered.1.driver answered.1.devices answered.1.fabric answered.1.reply answered.1.call
 ]
   where
     by : (cause : Cause) → ats_context_for old.memory (registers_of old.iommu) (contexts_of old.iommu) id ≡ Err cause → new.driver ≡ old.driver → new.devices ≡ old.devices → new.fabric ≡ old.fabric
-        → (reply : Reply) → AnswersTranslated old.memory old.iommu id access reply new.memory new.iommu → PartsInvariant new events
+        → (reply : Reply) → AnswersTranslated old.memory old.iommu id access reply new.memory new.iommu → InvariantWith walks new events
     by why found driver devices fabric (Accepted number) call = absurd (never_accepted old id access number new why found call.0)
     by why found driver devices fabric Busy call = keeps_same laws old new events id access invariants own unchanged reported driver devices fabric below call.3 call.2
     by why found driver devices fabric BadSpan call = keeps_same laws old new events id access invariants own unchanged reported driver devices fabric below call.2 call.1

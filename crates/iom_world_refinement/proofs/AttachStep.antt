@@ -3,6 +3,7 @@ use Rattle.std.proofs.Common.{◌≡◌, ◌+◌, ◌*◌, ◌-◌, ◌<◌, ◌
 use Rattle.std.specs.List.{IsDistinct}
 use Rattle.std.proofs.lemmas.Bool.{cases_lt}
 use Rattle.std.proofs.lemmas.List.Elements.{All-nil, All-cons}
+use Rattle.iom_walk_coherence.specs.Walks.{Walk}
 use Rattle.iom_base.specs.declared.owner.Owner.TheVariants.{System, OneDevice}
 use Rattle.iom_directory_build.specs.Pages.{root_level}
 use Rattle.iom_driver.specs.declared.device.Attachment.TheVariants as attached
@@ -44,7 +45,7 @@ use Rattle.iom_world_effects.specs.Answers.{outcome_of_done}
 use Rattle.iom_world_effects.specs.Effect.{AttachesDevice}
 use Rattle.iom_world_effects.specs.Parts.{Parts}
 use Rattle.iom_world_effects.specs.Shows.{PartsShow}
-use Rattle.iom_world_effects.specs.Invariant.{PartsInvariant}
+use Rattle.iom_world_effects.specs.Invariant.{InvariantWith}
 use Rattle.iom_world_refinement.proofs.ChoiceLemmas.{fewer_free}
 use Rattle.iom_world_effects.proofs.DriverLemmas.{DriverInvariant}
 use Rattle.iom_world_effects.proofs.FrameLemmas.{shows_marked, shows_kept}
@@ -168,7 +169,7 @@ size_attached d d' memory memory' id mode ats takes =
     ∙ length-hung (root_level d.levels) (cleared (takes.pages ++ root_frames mode takes.stage.root) memory) (directory_frame (length memory)) id takes.pages (context_for takes.stage)
     ∙ length-cleared (takes.pages ++ root_frames mode takes.stage.root) memory
 
-shows_attached : (old new : Parts) (events id : ℕ) (mode : Mode) (ats : Bool) (found : declared.Device) → PartsInvariant old events → has_device old.driver.devices id ≡ true
+shows_attached : {walks : List Walk} (old new : Parts) (events id : ℕ) (mode : Mode) (ats : Bool) (found : declared.Device) → InvariantWith walks old events → has_device old.driver.devices id ≡ true
     → (takes : TakesRoot old.driver old.memory id mode ats new.driver new.memory) → new.iommu ≡ old.iommu → new.devices ≡ old.devices
     → (state : State) → PartsShow old state → device_of state id ≡ Some found → PartsShow new (attached_state state id found mode ats takes.pages (root_frames mode takes.stage.root))
 shows_attached old new events id mode ats found invariants there takes iommu devices state shows at =
@@ -204,7 +205,7 @@ shows_attached old new events id mode ats found invariants there takes iommu dev
       limits = shows.limits;
     }
 
-pub attach_step : (old new : Parts) (events id : ℕ) (mode : Mode) (ats : Bool) (reply : Outcome) → PartsInvariant old events → DriverInvariant old.driver → AttachesDevice old id mode ats reply new
+pub attach_step : {walks : List Walk} (old new : Parts) (events id : ℕ) (mode : Mode) (ats : Bool) (reply : Outcome) → InvariantWith walks old events → DriverInvariant old.driver → AttachesDevice old id mode ats reply new
     → (state : State) → PartsShow old state → (pages taken : List ℕ) × (next : State) × machine.Attaches pages taken state id mode ats reply next × PartsShow new next
 attach_step old new events id mode ats reply invariants driver_invariant effect state shows = by effect.answer effect.reply_is effect.call
   where

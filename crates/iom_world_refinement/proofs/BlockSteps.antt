@@ -2,6 +2,7 @@
 use Rattle.std.proofs.Common.{◌≡◌, ◌≢◌, ◌^◌, ◌<◌, ◌==◌, ◌∙◌, inl, inr, ℕ, Bool, true, false, find, List, Option, None, Some, MatchOption, refl, sym, ap, subst}
 use Rattle.std.specs.Option.{option_map, option_map_or}
 use Rattle.std.proofs.lemmas.Bool.{false≢true}
+use Rattle.iom_walk_coherence.specs.Walks.{Walk}
 use Rattle.iom_base.specs.declared.access.Access.{Access}
 use Rattle.iom_base.specs.Accesses.{page_of, MayWant}
 use Rattle.iom_coherence.specs.Attachments.{caches_translations}
@@ -32,7 +33,7 @@ use Rattle.iom_world_effects.specs.Devices.{shown_device, shown_devices}
 use Rattle.iom_world_effects.specs.Messages.{with_sent}
 use Rattle.iom_world_effects.specs.Parts.{Parts}
 use Rattle.iom_world_effects.specs.Shows.{PartsShow}
-use Rattle.iom_world_effects.specs.Invariant.{PartsInvariant}
+use Rattle.iom_world_effects.specs.Invariant.{InvariantWith}
 use Rattle.iom_world_effects.proofs.DiskPlaces.{replaced_has}
 use Rattle.iom_world_effects.proofs.DriverLemmas.{DriverInvariant}
 use Rattle.iom_world_refinement.proofs.EventLemmas.{no_access}
@@ -318,7 +319,7 @@ miss_step old between new id access reply asks state shows has frame next goes s
     )
 
 -- AN ACCESS that a step wants
-pub begin_step : ServiceLaws → (old new : Parts) (events id : ℕ) (access : Access) (reply : Outcome) → PartsInvariant old events → DriverInvariant old.driver → StaysReported old.driver
+pub begin_step : {walks : List Walk} → ServiceLaws → (old new : Parts) (events id : ℕ) (access : Access) (reply : Outcome) → InvariantWith walks old events → DriverInvariant old.driver → StaysReported old.driver
     → access.address < 2 ^ 64 → MayWant access → BeginsAccess old id access reply new → (state : State) → PartsShow old state → Leads state id access reply new
 begin_step laws old new events id access reply invariants own reported fits may begins state shows = by (caches_translations (kind_in old.devices id)) refl begins
   where

@@ -1,5 +1,6 @@
 -- Nothing but a release, a detach, a quarantine, a restart and a fetch changes the commands that wait: the ring lies in a frame of the system's.
 use Rattle.std.proofs.Common.{◌≡◌, ◌<◌, ◌*◌, ◌⊎◌, ◌∙◌, inl, inr, ℕ, Bool, true, false, List, length, remove, Option, Some, None, IfSome, Result, Ok, Err, slice_get, slice_set, refl, sym, ap, subst}
+use Rattle.iom_walk_coherence.specs.Walks.{Walk}
 use Rattle.iom_base.specs.declared.grant_rights.GrantRights.{GrantRights}
 use Rattle.iom_base.specs.declared.owner.Owner.TheVariants.{System}
 use Rattle.iom_base.specs.Accesses.{read_of, write_of, at_frame}
@@ -63,7 +64,7 @@ use Rattle.iom_world_effects.specs.Requests.{AsksAccess, AsksTranslated}
 use Rattle.iom_world_effects.specs.ThroughCache.{DeviceAsksThroughCache, TriesCache, FindsFrame, cached_frame}
 use Rattle.iom_world_effects.specs.Unable.{IsUnknown, IsUnable}
 use Rattle.iom_base.specs.declared.mode.Mode.{Mode}
-use Rattle.iom_world_effects.specs.Invariant.{PartsInvariant}
+use Rattle.iom_world_effects.specs.Invariant.{InvariantWith}
 use Rattle.iom_world_invariant.proofs.DriverKeeps.{owned_differs, unmarked, attach_keeps_ring, tables_keep_system}
 use Rattle.iom_world_effects.proofs.DriverLemmas.{DriverInvariant}
 use Rattle.iom_world_invariant.proofs.ProcessorKeeps.{stores_keep}
@@ -81,7 +82,7 @@ abbrev pub KeepsSystem : Parts → List (List ℕ) → Type 0
 KeepsSystem old memory = (n : ℕ) → slice_get old.driver.owners n ≡ Some (Some System) → slice_get memory n ≡ slice_get old.memory n
 
 -- so the ring does, and what waits in it
-waits_still : (old new : Parts) (events : ℕ) → PartsInvariant old events → DriverInvariant old.driver → registers_of new.iommu ≡ registers_of old.iommu → KeepsSystem old new.memory → waiting_in new ≡ waiting_in old
+waits_still : {walks : List Walk} (old new : Parts) (events : ℕ) → InvariantWith walks old events → DriverInvariant old.driver → registers_of new.iommu ≡ registers_of old.iommu → KeepsSystem old new.memory → waiting_in new ≡ waiting_in old
 waits_still old new events invariants own registers keeps =
     same_waiting old new events invariants registers (keeps (command_frame (length old.memory)) (fixed_frames old events invariants own).command)
 
@@ -94,14 +95,14 @@ stored_keeps : (old : Parts) (frame : ℕ) (bytes : List ℕ) (memory : List (Li
 stored_keeps old frame bytes memory free stored n system =
     ap (λ m. slice_get m n) stored ∙ get_set_other old.memory frame n bytes (owned_differs old.driver.owners n frame System system free)
 
-attach_keeps : (old new : Parts) (events id : ℕ) (mode : Mode) (ats : Bool) (answered : Outcome) → PartsInvariant old events → DriverInvariant old.driver → AttachesDevice old id mode ats answered new → waiting_in new ≡ waiting_in old
+attach_keeps : {walks : List Walk} (old new : Parts) (events id : ℕ) (mode : Mode) (ats : Bool) (answered : Outcome) → InvariantWith walks old events → DriverInvariant old.driver → AttachesDevice old id mode ats answered new → waiting_in new ≡ waiting_in old
 attach_keeps old new events id mode ats answered invariants own effect = by effect.answer effect.call
   where
     by : (answer : Result (Unit {0}) Refusal) → AnswersAttach old.driver old.memory id mode ats answer new.driver new.memory → waiting_in new ≡ waiting_in old
     by (Ok done) (admitted, takes) = same_waiting old new events invariants (ap registers_of effect.iommu) (attach_keeps_ring old new events id invariants own ats admitted mode takes)
     by (Err why) (refused, driver, memory) = waits_same old new memory (ap registers_of effect.iommu)
 
-pub grant_keeps : (old new : Parts) (events id page frame : ℕ) (rights : GrantRights) (answered : Outcome) → PartsInvariant old events → GrantsPage old id page frame rights answered new → KeepsSystem old new.memory
+pub grant_keeps : {walks : List Walk} (old new : Parts) (events id page frame : ℕ) (rights : GrantRights) (answered : Outcome) → InvariantWith walks old events → GrantsPage old id page frame rights answered new → KeepsSystem old new.memory
 grant_keeps old new events id page frame rights answered invariants effect = by effect.answer effect.call
   where
     by : (answer : Result (Unit {0}) Refusal) → AnswersGrant old.driver old.memory id page frame rights answer new.driver new.memory → KeepsSystem old new.memory
@@ -128,7 +129,7 @@ poll_keeps old new answered effect = by effect.answer effect.call
     by (Err why) (refused, driver, memory) = λ n system. ap (λ m. slice_get m n) memory
 
 -- the IOMMU's answer to a request leaves the registers of the command queue: a fault is reported in those of another queue
-answer_keeps : (Served : Result Translation WalkFault → Translations → Type 0) (transaction : Transaction) (old new : Parts) (events id : ℕ) (access : Access) → PartsInvariant old events → DriverInvariant old.driver
+answer_keeps : {walks : List Walk} (Served : Result Translation WalkFault → Translations → Type 0) (transaction : Transaction) (old new : Parts) (events id : ℕ) (access : Access) → InvariantWith walks old events → DriverInvariant old.driver
     → StaysReported old.driver → new.driver ≡ old.driver → new.devices ≡ old.devices → new.fabric ≡ old.fabric → (reply : Reply) → Answers Served transaction old.memory old.iommu id access reply new.memory new.iommu
     → waiting_in new ≡ waiting_in old
 answer_keeps Served transaction old new events id access invariants own reported driver devices fabric reply.BadSpan answers = waits_same old new answers.2 (ap registers_of answers.1)
@@ -137,7 +138,7 @@ answer_keeps Served transaction old new events id access invariants own reported
 answer_keeps Served transaction old new events id access invariants own reported driver devices fabric (reply.Fault cause) answers =
     report_waiting old new events invariants own (report_leaves old new events id access invariants reported driver devices fabric cause answers)
 
-asks_keep : (can : DeviceKind → Bool) (old new : Parts) (events id : ℕ) (access : Access) (answered : Outcome) → PartsInvariant old events → DriverInvariant old.driver → StaysReported old.driver
+asks_keep : {walks : List Walk} (can : DeviceKind → Bool) (old new : Parts) (events id : ℕ) (access : Access) (answered : Outcome) → InvariantWith walks old events → DriverInvariant old.driver → StaysReported old.driver
     → AsksAccess can old id access answered new → waiting_in new ≡ waiting_in old
 asks_keep can old new events id access answered invariants own reported asks = elim asks [
   | inl unknown ↦ ap waiting_in unknown.same
@@ -145,7 +146,7 @@ asks_keep can old new events id access answered invariants own reported asks = e
   | inr (inr (able, replied)) ↦ answer_keeps (ServesRequest old.memory old.iommu id access) (untranslated_of access.kind) old new events id access invariants own reported replied.driver replied.devices replied.fabric replied.reply replied.call
 ]
 
-translated_keep : (old new : Parts) (events id : ℕ) (access : Access) (answered : Outcome) → PartsInvariant old events → DriverInvariant old.driver → StaysReported old.driver
+translated_keep : {walks : List Walk} (old new : Parts) (events id : ℕ) (access : Access) (answered : Outcome) → InvariantWith walks old events → DriverInvariant old.driver → StaysReported old.driver
     → AsksTranslated old id access answered new → waiting_in new ≡ waiting_in old
 translated_keep old new events id access answered invariants own reported asks = elim asks [
   | inl unknown ↦ ap waiting_in unknown.same
@@ -153,20 +154,20 @@ translated_keep old new events id access answered invariants own reported asks =
   | inr (inr (able, replied)) ↦ answer_keeps (ServesTranslated old.memory old.iommu id access) (translated_of access.kind) old new events id access invariants own reported replied.driver replied.devices replied.fabric replied.reply replied.call
 ]
 
-finds_keep : (found : Option ℕ) (old new : Parts) (events id : ℕ) (access : Access) (answered : Outcome) → PartsInvariant old events → DriverInvariant old.driver → StaysReported old.driver
+finds_keep : {walks : List Walk} (found : Option ℕ) (old new : Parts) (events id : ℕ) (access : Access) (answered : Outcome) → InvariantWith walks old events → DriverInvariant old.driver → StaysReported old.driver
     → FindsFrame found old id access answered new → waiting_in new ≡ waiting_in old
 finds_keep None old new events id access answered invariants own reported missed = ap waiting_in missed.1
 finds_keep (Some frame) old new events id access answered invariants own reported replied =
     answer_keeps (ServesTranslated old.memory old.iommu id (at_frame frame access)) (translated_of access.kind) old new events id (at_frame frame access) invariants own reported
     replied.driver replied.devices replied.fabric replied.reply replied.call
 
-tries_keep : (old new : Parts) (events id : ℕ) (access : Access) (answered : Outcome) → PartsInvariant old events → DriverInvariant old.driver → StaysReported old.driver
+tries_keep : {walks : List Walk} (old new : Parts) (events id : ℕ) (access : Access) (answered : Outcome) → InvariantWith walks old events → DriverInvariant old.driver → StaysReported old.driver
     → TriesCache old id access answered new → waiting_in new ≡ waiting_in old
 tries_keep old new events id access answered invariants own reported (inl far) = ap waiting_in far.2
 tries_keep old new events id access answered invariants own reported (inr (inl full)) = ap waiting_in full.3
 tries_keep old new events id access answered invariants own reported (inr (inr finds)) = finds_keep (cached_frame old id access) old new events id access answered invariants own reported finds.2
 
-through_cache_keep : (can : DeviceKind → Bool) (old new : Parts) (events id : ℕ) (access : Access) (answered : Outcome) → PartsInvariant old events → DriverInvariant old.driver → StaysReported old.driver
+through_cache_keep : {walks : List Walk} (can : DeviceKind → Bool) (old new : Parts) (events id : ℕ) (access : Access) (answered : Outcome) → InvariantWith walks old events → DriverInvariant old.driver → StaysReported old.driver
     → DeviceAsksThroughCache can old id access answered new → waiting_in new ≡ waiting_in old
 through_cache_keep can old new events id access answered invariants own reported (inl unknown) = ap waiting_in unknown.same
 through_cache_keep can old new events id access answered invariants own reported (inr (inl unable)) = ap waiting_in unable.same
@@ -181,7 +182,7 @@ sends_keep can old new id message answered asks = elim asks [
   | inr (inr (able, sends)) ↦ ap waiting_in sends.sent
 ]
 
-answered_keep : (old new : Parts) (events device epoch page : ℕ) (others : List OnLink) (answered : Outcome) → PartsInvariant old events → DriverInvariant old.driver → StaysReported old.driver
+answered_keep : {walks : List Walk} (old new : Parts) (events device epoch page : ℕ) (others : List OnLink) (answered : Outcome) → InvariantWith walks old events → DriverInvariant old.driver → StaysReported old.driver
     → AnswersAsked old device epoch page others answered new → waiting_in new ≡ waiting_in old
 answered_keep old new events device epoch page others answered invariants own reported answers = by answers.answer answers.call
   where
@@ -198,7 +199,7 @@ answered_keep old new events device epoch page others answered invariants own re
     by (Page frame rights) call = waits_same old new call.1 (ap (λ parts. parts.registers) call.0.rest)
     by (Refused cause) call = recorded cause call (is_page_fault call.fault.cause) call.recorded
 
-delivered_keep : (old new : Parts) (events place : ℕ) (answered : Outcome) → PartsInvariant old events → DriverInvariant old.driver → StaysReported old.driver → DeliversMessage old place answered new
+delivered_keep : {walks : List Walk} (old new : Parts) (events place : ℕ) (answered : Outcome) → InvariantWith walks old events → DriverInvariant old.driver → StaysReported old.driver → DeliversMessage old place answered new
     → waiting_in new ≡ waiting_in old
 delivered_keep old new events place answered invariants own reported delivers = by (slice_get old.fabric place) delivers
   where
@@ -221,7 +222,7 @@ performs_keep old accepted memory free performed = by accepted.access.kind perfo
     by Read same = λ n system. ap (λ m. slice_get m n) same
     by Write stores = stored_keeps old accepted.frame _ memory free stores.2
 
-pub makes_keep : (old new : Parts) (events id : ℕ) (made : Option MadeAt) → PartsInvariant old events → MakesOldestInFlight old.memory (flights_of old.iommu) id made new.memory (flights_of new.iommu)
+pub makes_keep : {walks : List Walk} (old new : Parts) (events id : ℕ) (made : Option MadeAt) → InvariantWith walks old events → MakesOldestInFlight old.memory (flights_of old.iommu) id made new.memory (flights_of new.iommu)
     → IfSome made (λ it. has_owner old.driver.owners it.frame ≡ false) → KeepsSystem old new.memory
 makes_keep old new events id None invariants makes unreserved = λ n system. ap (λ m. slice_get m n) makes.1
 makes_keep old new events id (Some made) invariants makes unreserved =
@@ -230,13 +231,13 @@ makes_keep old new events id (Some made) invariants makes unreserved =
     performs_keep old makes.oldest.accepted new.memory
     (unmarked old.driver.owners makes.oldest.accepted.frame inside (subst (λ f. has_owner old.driver.owners f ≡ false) frame unreserved)) makes.performed
 
-commits_keep : (old new : Parts) (events id : ℕ) (answered : Outcome) → PartsInvariant old events → DriverInvariant old.driver → CommitsAccess old id answered new → waiting_in new ≡ waiting_in old
+commits_keep : {walks : List Walk} (old new : Parts) (events id : ℕ) (answered : Outcome) → InvariantWith walks old events → DriverInvariant old.driver → CommitsAccess old id answered new → waiting_in new ≡ waiting_in old
 commits_keep old new events id answered invariants own commits = elim commits [
   | inl unknown ↦ ap waiting_in unknown.same
   | inr oldest ↦ waits_still old new events invariants own (ap (λ parts. parts.registers) oldest.call.rest) (makes_keep old new events id oldest.made invariants oldest.call.makes oldest.unreserved)
 ]
 
-pub poke_keeps : (old : Parts) (events address : ℕ) (bytes : List ℕ) (answered : Outcome) (memory : List (List ℕ)) → PartsInvariant old events → StoresIfAny old address bytes answered memory → KeepsSystem old memory
+pub poke_keeps : {walks : List Walk} (old : Parts) (events address : ℕ) (bytes : List ℕ) (answered : Outcome) (memory : List (List ℕ)) → InvariantWith walks old events → StoresIfAny old address bytes answered memory → KeepsSystem old memory
 poke_keeps old events address bytes answered memory invariants stores n system = (stores_keep old events address bytes answered memory invariants stores).1 n System system
 
 -- what block devices do changes them only by a fault that is reported
@@ -256,7 +257,7 @@ asked_if_missed : (first : Outcome) (between new : Parts) (id : ℕ) (access : A
 asked_if_missed outcome.Miss between new id access answered asks = ap waiting_in asks.1
 asked_if_missed _ between new id access answered asks = ap waiting_in asks.1
 
-begins_keep : (old new : Parts) (events id : ℕ) (access : Access) (answered : Outcome) → PartsInvariant old events → DriverInvariant old.driver → StaysReported old.driver
+begins_keep : {walks : List Walk} (old new : Parts) (events id : ℕ) (access : Access) (answered : Outcome) → InvariantWith walks old events → DriverInvariant old.driver → StaysReported old.driver
     → BeginsAccess old id access answered new → waiting_in new ≡ waiting_in old
 begins_keep old new events id access answered invariants own reported begins = by (caches_translations (kind_in old.devices id)) begins
   where
@@ -266,7 +267,7 @@ begins_keep old new events id access answered invariants own reported begins = b
         asked_if_missed goes.first goes.between new id access answered goes.asks
         ∙ through_cache_keep is_block_device old goes.between events id access goes.first invariants own reported goes.tries
 
-step_keeps : (old new : Parts) (events id : ℕ) (answered : Outcome) → PartsInvariant old events → DriverInvariant old.driver → StaysReported old.driver → TakesBlockStep old id answered new → waiting_in new ≡ waiting_in old
+step_keeps : {walks : List Walk} (old new : Parts) (events id : ℕ) (answered : Outcome) → InvariantWith walks old events → DriverInvariant old.driver → StaysReported old.driver → TakesBlockStep old id answered new → waiting_in new ≡ waiting_in old
 step_keeps old new events id answered invariants own reported (inl (access, fits, may, begins)) = begins_keep old new events id access answered invariants own reported begins
 step_keeps old new events id answered invariants own reported (inr (step, rest, inl unknown)) = ap waiting_in unknown.same
 step_keeps old new events id answered invariants own reported (inr (step, rest, inr (inl unable))) = ap waiting_in unable.same
@@ -277,7 +278,7 @@ status_keeps old new id status answered (inl unknown) = ap waiting_in unknown.sa
 status_keeps old new id status answered (inr (inl unable)) = ap waiting_in unable.same
 status_keeps old new id status answered (inr (inr (able, is, same))) = ap waiting_in same
 
-pub commands_stay : (disks : List ℕ) (old new : Parts) (before : ℕ) (event : Event) (answered : Outcome) → PartsInvariant old before → DriverInvariant old.driver → StaysReported old.driver → Effect disks old event answered new → KeepsCommands event old new
+pub commands_stay : {walks : List Walk} (disks : List ℕ) (old new : Parts) (before : ℕ) (event : Event) (answered : Outcome) → InvariantWith walks old before → DriverInvariant old.driver → StaysReported old.driver → Effect disks old event answered new → KeepsCommands event old new
 commands_stay disks old new before (events.Release id page) answered invariants own reported effect = tt
 commands_stay disks old new before (events.Detach id) answered invariants own reported effect = tt
 commands_stay disks old new before (events.Quarantine id) answered invariants own reported effect = tt

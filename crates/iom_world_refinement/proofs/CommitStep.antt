@@ -1,5 +1,6 @@
 -- An access in flight is made: a lawful step of the ledger machine.
 use Rattle.std.proofs.Common.{◌≡◌, ◌+◌, ◌∙◌, ◌∷◌, inl, inr, ℕ, false, List, [], map, drop, Contains, Option, Some, None, IfSome, slice_get, slice_range, refl, sym, ap, subst}
+use Rattle.iom_walk_coherence.specs.Walks.{Walk}
 use Rattle.iom_base.specs.declared.access.AcceptedAccess.{AcceptedAccess}
 use Rattle.iom_base.specs.declared.access.AccessKind.{AccessKind}
 use Rattle.iom_base.specs.declared.access.AccessKind.TheVariants as kinds
@@ -25,7 +26,7 @@ use Rattle.iom_world_effects.specs.Devices.{in_flight_of, shown_device, shown_de
 use Rattle.iom_world_effects.specs.Frames.{ShowsFrames}
 use Rattle.iom_world_effects.specs.Parts.{Parts}
 use Rattle.iom_world_effects.specs.Shows.{PartsShow}
-use Rattle.iom_world_effects.specs.Invariant.{PartsInvariant}
+use Rattle.iom_world_effects.specs.Invariant.{InvariantWith}
 use Rattle.iom_world_invariant.proofs.CommitKeeps.{made_free}
 use Rattle.iom_world_refinement.proofs.FlightMay.{row_may}
 use Rattle.iom_world_effects.proofs.RowPlaces.{IsFound, present_found, row_shown, accepted_at, in_flight_at, with_own}
@@ -37,7 +38,7 @@ use Rattle.iom_base.specs.DeviceKinds.{is_any_kind}
 abbrev pub Steps : State → ℕ → Outcome → Parts → Type 0
 Steps state id reply new = (next : State) × Commits state id reply next × PartsShow new next
 
-module _ (old new : Parts) (events id : ℕ) (invariants : PartsInvariant old events) (driver : new.driver ≡ old.driver) (devices : new.devices ≡ old.devices) (state : State) (shows : PartsShow old state)
+module _ {walks : List Walk} (old new : Parts) (events id : ℕ) (invariants : InvariantWith walks old events) (driver : new.driver ≡ old.driver) (devices : new.devices ≡ old.devices) (state : State) (shows : PartsShow old state)
     (found : IsFound old.driver.devices (flights_of old.iommu).rows old.devices id) where
   abbrev rows : List FlightRow
   rows = (flights_of old.iommu).rows
@@ -144,7 +145,7 @@ module _ (old new : Parts) (events id : ℕ) (invariants : PartsInvariant old ev
       )
   step_oldest (Some made) reply tells call unreserved = step_made made call.makes unreserved reply tells
 
-pub commit_step : (old new : Parts) (events id : ℕ) (reply : Outcome) → PartsInvariant old events → CommitsAccess old id reply new
+pub commit_step : {walks : List Walk} (old new : Parts) (events id : ℕ) (reply : Outcome) → InvariantWith walks old events → CommitsAccess old id reply new
     → (state : State) → PartsShow old state → (next : State) × Commits state id reply next × PartsShow new next
 commit_step old new events id reply invariants commits state shows = elim commits [
   | inl unknown ↦ (

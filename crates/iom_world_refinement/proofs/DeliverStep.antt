@@ -1,5 +1,6 @@
 -- A message that arrives, whichever it is: what stays true of a world, and that it is a lawful step of the ledger machine.
 use Rattle.std.proofs.Common.{zero, suc, ◌≡◌, ◌<◌, ◌∙◌, ℕ, Bool, true, false, List, [], ◌∷◌, remove, slice_get, Option, None, Some, refl, sym, ap, subst, if◌then◌else◌}
+use Rattle.iom_walk_coherence.specs.Walks.{Walk}
 use Rattle.iom_ats_cache.specs.Cache.{Cache}
 use Rattle.iom_ats_cache.specs.declared.taken.Taken.{Taken}
 use Rattle.iom_ats_cache.specs.declared.taken.Taken.TheVariants as taken
@@ -17,7 +18,7 @@ use Rattle.iom_world_effects.specs.Deliveries.{TakesInto, outcome_of_taking, out
 use Rattle.iom_world_effects.specs.Unchanged.{AreSame, SameIfRefused}
 use Rattle.iom_world_effects.specs.Parts.{Parts}
 use Rattle.iom_world_effects.specs.Shows.{PartsShow}
-use Rattle.iom_world_effects.specs.Invariant.{PartsInvariant}
+use Rattle.iom_world_effects.specs.Invariant.{InvariantWith}
 use Rattle.iom_world_invariant.proofs.DeliverKeeps.{keeps_taken, keeps_requested, keeps_heard}
 use Rattle.iom_world_effects.proofs.DriverLemmas.{DriverInvariant}
 use Rattle.iom_world_refinement.proofs.MessageSteps.{taken_step, obeyed_step, heard_step}
@@ -35,13 +36,13 @@ removed_none [] (suc place) at = refl
 removed_none (x ∷ xs) zero at = cc
 removed_none (x ∷ xs) (suc place) at = ap (λ l. x ∷ l) (removed_none xs place at)
 
-module _ (laws : ServiceLaws) (old new : Parts) (events place : ℕ) (reply : Outcome) (invariants : PartsInvariant old events) (own : DriverInvariant old.driver) (reported : StaysReported old.driver) where
+module _ {walks : List Walk} (laws : ServiceLaws) (old new : Parts) (events place : ℕ) (reply : Outcome) (invariants : InvariantWith walks old events) (own : DriverInvariant old.driver) (reported : StaysReported old.driver) where
   -- ALL STAYS TRUE
   pub keeps_arrived : StaysReady old.driver → ((id : ℕ) → epoch_in old.devices id < events) → (on : OnLink) → slice_get old.fabric place ≡ Some on
-      → Arrives on.message old on.device (remove old.fabric place) reply new → PartsInvariant new events
+      → Arrives on.message old on.device (remove old.fabric place) reply new → InvariantWith walks new events
   keeps_arrived unchanged below on at arrives = by on.message at arrives
     where
-      by : (message : Message) → slice_get old.fabric place ≡ Some (record { device = on.device; message = message }) → Arrives message old on.device (remove old.fabric place) reply new → PartsInvariant new events
+      by : (message : Message) → slice_get old.fabric place ≡ Some (record { device = on.device; message = message }) → Arrives message old on.device (remove old.fabric place) reply new → InvariantWith walks new events
       by (sent.Ask epoch page) at arrives = keeps_answered laws old new events place on.device epoch page reply invariants own unchanged reported at arrives
       by (sent.Answer epoch page answer) at arrives = keeps_taken old new events place on.device epoch page answer reply invariants at arrives
       by (sent.InvReq serial range) at arrives = keeps_requested old new events place on.device serial range reply invariants (below on.device) at arrives

@@ -1,6 +1,7 @@
 -- A detach of the driver is one of the ledger machine.
 use Rattle.std.proofs.Common.{◌≡◌, ◌+◌, ◌==◌, ◌∙◌, ℕ, false, List, find, length, Option, Some, None, Result, Ok, Err, slice_get, refl, sym, ap, subst}
 use Rattle.std.specs.Option.{option_map_or}
+use Rattle.iom_walk_coherence.specs.Walks.{Walk}
 use Rattle.iom_base.specs.declared.owner.Owner.TheVariants.{System}
 use Rattle.iom_directory_build.specs.Pages.{HasPage, root_level}
 use Rattle.iom_directory_build.specs.Written.{without_context}
@@ -39,7 +40,7 @@ use Rattle.iom_world_effects.specs.Effect.{DetachesDevice}
 use Rattle.iom_world_effects.specs.Frames.{ShowsFrames}
 use Rattle.iom_world_effects.specs.Parts.{Parts}
 use Rattle.iom_world_effects.specs.Shows.{PartsShow}
-use Rattle.iom_world_effects.specs.Invariant.{PartsInvariant}
+use Rattle.iom_world_effects.specs.Invariant.{InvariantWith}
 use Rattle.iom_world_invariant.proofs.BlockKeeps.{shown_block_reset}
 use Rattle.iom_world_effects.proofs.DiskPlaces.{shown_found, replaced_has, replaced_twice}
 use Rattle.iom_world_effects.proofs.DriverLemmas.{DriverInvariant}
@@ -60,7 +61,7 @@ size_left d d' memory memory' io io' id ticket queues =
     ∙ length-without_context memory (root_level d.levels) (directory_frame (length memory)) id
 
 -- a frame that is nobody's is no page of the directory
-not_page : (old : Parts) (events : ℕ) (frame : ℕ) → PartsInvariant old events → slice_get old.driver.owners frame ≡ Some None
+not_page : {walks : List Walk} (old : Parts) (events : ℕ) (frame : ℕ) → InvariantWith walks old events → slice_get old.driver.owners frame ≡ Some None
     → ¬ HasPage old.memory (root_level old.driver.levels) (directory_frame (length old.memory)) frame
 not_page old events frame invariants free page =
     let stands = invariants.ready.stand.directory invariants.started in
@@ -78,7 +79,7 @@ abbrev pub left_state : State → declared.Device → ℕ → State
 left_state state device ticket =
     record (with_device state (record device { has_disk = false; attachment = leaving_under ticket device.attachment })) { last_ticket = ticket }
 
-shows_leaving : (old new : Parts) (events id ticket : ℕ) (found : declared.Device) → PartsInvariant old events → DriverInvariant old.driver
+shows_leaving : {walks : List Walk} (old new : Parts) (events id ticket : ℕ) (found : declared.Device) → InvariantWith walks old events → DriverInvariant old.driver
     → (queues : QueuesDetach mmio old.driver old.memory old.iommu id ticket new.driver new.memory new.iommu) → new.devices ≡ old.devices
     → (state : State) → PartsShow old state → device_of state id ≡ Some found → found.attachment ≡ Attached queues.stage.mode queues.stage.ats → PartsShow new (leaving_state state found ticket)
 shows_leaving old new events id ticket found invariants driver_invariant queues devices state shows at how =
@@ -142,7 +143,7 @@ shows_left new devices id ticket found left state at shows =
       limits = shows.limits;
     }
 
-pub detach_step : (old new : Parts) (events id : ℕ) (reply : Outcome) → PartsInvariant old events → DriverInvariant old.driver → DetachesDevice old id reply new
+pub detach_step : {walks : List Walk} (old new : Parts) (events id : ℕ) (reply : Outcome) → InvariantWith walks old events → DriverInvariant old.driver → DetachesDevice old id reply new
     → (state : State) → PartsShow old state → (next : State) × machine.Detaches state id reply next × PartsShow new next
 detach_step old new events id reply invariants driver_invariant effect state shows =
     by effect.answer effect.reply_is (effect.call.reply (has_grants state id) (grants_shown old.driver.ledger state id shows.ledger)) effect.call.effect effect.devices

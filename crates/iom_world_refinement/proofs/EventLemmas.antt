@@ -1,12 +1,13 @@
 -- What is left free at an event, and that one more event is counted.
 use Rattle.std.proofs.Common.{◌+◌, ◌<◌, ℕ, List, [], arith}
+use Rattle.iom_walk_coherence.specs.Walks.{Walk}
 use Rattle.iom_base.specs.declared.access.Access.{Access}
 use Rattle.iom_base.specs.Accesses.{read_of}
 use Rattle.iom_iommu.specs.Parts.{flights_of, slots_of}
 use Rattle.iom_machine.specs.declared.choice.Choice.{Choice}
 use Rattle.iom_device.specs.Caches.{epoch_in}
 use Rattle.iom_world_effects.specs.Parts.{Parts}
-use Rattle.iom_world_effects.specs.Invariant.{PartsInvariant}
+use Rattle.iom_world_effects.specs.Invariant.{InvariantWith}
 
 -- no access is chosen
 abbrev pub no_access : Access
@@ -37,7 +38,7 @@ abbrev pub pages_taken : List ℕ → List ℕ → Choice
 pages_taken pages taken = record { directory = pages; taken = taken; returned = []; frame = 0; device = 0; page = 0; access = no_access }
 
 -- what is sound stays so where one more event is counted
-pub sound_counted : (parts : Parts) (events : ℕ) → PartsInvariant parts events → PartsInvariant parts (events + 1)
+pub sound_counted : {walks : List Walk} (parts : Parts) (events : ℕ) → InvariantWith walks parts events → InvariantWith walks parts (events + 1)
 sound_counted parts events invariants = record {
   ready = invariants.ready;
   started = invariants.started;
@@ -53,12 +54,12 @@ sound_counted parts events invariants = record {
 }
 
 -- no more accesses were accepted than events came before the one that is counted
-pub below_counted : (parts : Parts) (events : ℕ) → PartsInvariant parts events → (flights_of parts.iommu).so_far < events + 1
+pub below_counted : {walks : List Walk} (parts : Parts) (events : ℕ) → InvariantWith walks parts events → (flights_of parts.iommu).so_far < events + 1
 below_counted parts events invariants = let count = invariants.counted in omega (arith, count)
 
 -- nor were more serials given
-pub serials_counted : (parts : Parts) (events : ℕ) → PartsInvariant parts events → (slots_of parts.iommu).last < events + 1
+pub serials_counted : {walks : List Walk} (parts : Parts) (events : ℕ) → InvariantWith walks parts events → (slots_of parts.iommu).last < events + 1
 serials_counted parts events invariants = let last = invariants.serials in omega (arith, last)
 
-pub epochs_counted : (parts : Parts) (events : ℕ) → PartsInvariant parts events → (id : ℕ) → epoch_in parts.devices id < events + 1
+pub epochs_counted : {walks : List Walk} (parts : Parts) (events : ℕ) → InvariantWith walks parts events → (id : ℕ) → epoch_in parts.devices id < events + 1
 epochs_counted parts events invariants id = let low = invariants.epochs id in omega (arith, low)

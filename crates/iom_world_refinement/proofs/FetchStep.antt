@@ -1,5 +1,6 @@
 -- A fetch is a step of the ledger machine, which sees nothing of it: no frame changes but that of the completion word, which is the system's.
 use Rattle.std.proofs.Common.{◌≡◌, ◌∙◌, ℕ, Bool, true, false, List, length, Option, Some, None, slice_get, refl, sym, ap, subst, arith}
+use Rattle.iom_walk_coherence.specs.Walks.{Walk}
 use Rattle.iom_base.specs.declared.owner.Owner.{Owner}
 use Rattle.iom_base.specs.declared.owner.Owner.TheVariants.{System}
 use Rattle.iom_driver.specs.Fences.{last_fence}
@@ -19,7 +20,7 @@ use Rattle.iom_world_effects.specs.Frames.{ShowsFrames}
 use Rattle.iom_world_effects.specs.Parts.{Parts}
 use Rattle.iom_world_effects.specs.Queued.{completed_in}
 use Rattle.iom_world_effects.specs.Shows.{PartsShow}
-use Rattle.iom_world_effects.specs.Invariant.{PartsInvariant}
+use Rattle.iom_world_effects.specs.Invariant.{InvariantWith}
 use Rattle.iom_world_effects.proofs.DriverLemmas.{DriverInvariant}
 use Rattle.iom_world_invariant.proofs.FetchKeeps.{head_next, never_stops, stored_there}
 use Rattle.iom_world_effects.proofs.FrameLemmas.{shows_kept}
@@ -34,13 +35,13 @@ pub record Unseen (old new : Parts) (frames : List Frame) : Type 0 where
   pub flights : flights_of new.iommu ≡ flights_of old.iommu
 
 -- a fetch that is stopped changes nothing: no command of the driver's stops it, so it had stopped before
-stopped_unseen : (old new : Parts) (events : ℕ) (state : State) → PartsInvariant old events → DriverInvariant old.driver → (on : Bool)
+stopped_unseen : {walks : List Walk} (old new : Parts) (events : ℕ) (state : State) → InvariantWith walks old events → DriverInvariant old.driver → (on : Bool)
     → StopsFetching on old.memory old.iommu new.iommu → new.memory ≡ old.memory → ShowsFrames old.memory old.driver.owners state.frames → Unseen old new state.frames
 stopped_unseen old new events state invariants own true stops memory shows =
     absurd (never_stops old events new.iommu invariants (let m = own.sizes.size.0 in let size = invariants.ready.stand.size in omega (arith, size, m)) stops)
 stopped_unseen old new events state invariants own false stops memory shows = record { shown = rw memory shows; flights = ap flights_of stops }
 
-fetched_unseen : (old new : Parts) (events : ℕ) (answer : Fetched) (state : State) → PartsInvariant old events → DriverInvariant old.driver
+fetched_unseen : {walks : List Walk} (old new : Parts) (events : ℕ) (answer : Fetched) (state : State) → InvariantWith walks old events → DriverInvariant old.driver
     → FetchesByAnswer old.memory old.iommu answer new.memory new.iommu → ShowsFrames old.memory old.driver.owners state.frames → Unseen old new state.frames
 fetched_unseen old new events (Did command) state invariants own fetches shows =
     let size : length old.memory ≡ length old.driver.owners = invariants.ready.stand.size in
@@ -58,7 +59,7 @@ fetched_unseen old new events Empty state invariants own fetches shows = record 
 fetched_unseen old new events Stopped state invariants own fetches shows =
     stopped_unseen old new events state invariants own (is_processing_commands (registers_of old.iommu)) fetches.0 fetches.1 shows
 
-pub fetch_step : (old new : Parts) (events : ℕ) (reply : Outcome) → PartsInvariant old events → DriverInvariant old.driver → FetchesNext old reply new
+pub fetch_step : {walks : List Walk} (old new : Parts) (events : ℕ) (reply : Outcome) → InvariantWith walks old events → DriverInvariant old.driver → FetchesNext old reply new
     → (state : State) → PartsShow old state → (next : State) × machine.Fetches state reply next × PartsShow new next
 fetch_step old new events reply invariants own effect state shows =
     let unseen = fetched_unseen old new events effect.answer state invariants own (by_answer old.memory new.memory old.iommu new.iommu effect.answer effect.call) shows.frames in (

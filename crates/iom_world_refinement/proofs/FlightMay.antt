@@ -2,6 +2,7 @@
 use Rattle.std.proofs.Common.{◌≡◌, ◌<◌, ℕ, List, [], ◌∷◌, Option, Some, None, All, Contains, refl, sym, subst}
 use Rattle.std.proofs.Math.Logic.{∥∥₁_map}
 use Rattle.std.proofs.lemmas.List.Elements.{All-map, All-cons, All-nil}
+use Rattle.iom_walk_coherence.specs.Walks.{Walk}
 use Rattle.iom_base.specs.declared.access.AcceptedAccess.{AcceptedAccess}
 use Rattle.iom_coherence.specs.Scene.{Scene}
 use Rattle.iom_coherence.proofs.ListLemmas.{contains_head, contains_tail, contains_map}
@@ -17,7 +18,7 @@ use Rattle.iom_world_effects.specs.Devices.{in_flight_of, shown_device}
 use Rattle.iom_world_effects.specs.Parts.{Parts}
 use Rattle.iom_world_effects.specs.Read.{access_in_flight, accesses_of}
 use Rattle.iom_world_effects.specs.Shows.{PartsShow}
-use Rattle.iom_world_effects.specs.Invariant.{PartsInvariant}
+use Rattle.iom_world_effects.specs.Invariant.{InvariantWith}
 use Rattle.iom_world_effects.proofs.HistoryMay.{may_merely, facts_of_history}
 use Rattle.iom_world_effects.proofs.RowLemmas.{row_accesses}
 
@@ -25,7 +26,7 @@ all_by_contains : {X : Type 0} (P : X → Type 0) (xs : List X) → ((x : X) →
 all_by_contains P [] each = All-nil P
 all_by_contains P (x ∷ xs) each = All-cons P x xs (each x (contains_head x xs)) (all_by_contains P xs (λ y there. each y (contains_tail x xs y there)))
 
-module _ (parts : Parts) (events : ℕ) (invariants : PartsInvariant parts events) (state : State) (shows : PartsShow parts state) where
+module _ {walks : List Walk} (parts : Parts) (events : ℕ) (invariants : InvariantWith walks parts events) (state : State) (shows : PartsShow parts state) where
   abbrev rows : List FlightRow
   rows = (flights_of parts.iommu).rows
 
@@ -59,7 +60,7 @@ module _ (parts : Parts) (events : ℕ) (invariants : PartsInvariant parts event
           (all_by_contains (λ (flight : NumberedAccess). May state.history id flight.accepted.frame flight.accepted.access.kind) row.waiting
           (λ flight there. row_may id row at flight there)))
 
-pub each_may : (parts : Parts) (events : ℕ) → PartsInvariant parts events → (state : State) → PartsShow parts state → EachInFlightMay state
+pub each_may : {walks : List Walk} (parts : Parts) (events : ℕ) → InvariantWith walks parts events → (state : State) → PartsShow parts state → EachInFlightMay state
 each_may parts events invariants state shows =
     rw shows.devices
     (All-map (DeviceMay state.history) (shown_device parts.driver.devices (flights_of parts.iommu).rows) parts.devices

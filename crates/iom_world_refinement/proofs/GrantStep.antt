@@ -1,6 +1,7 @@
 -- A grant of the driver is one of the ledger machine.
 use Rattle.std.proofs.Common.{◌≡◌, ◌≢◌, ◌<◌, ◌≤◌, ◌∙◌, ℕ, Bool, true, false, not, List, [], ◌∷◌, length, All, nat_eq, Option, Some, None, Result, Ok, Err, get_or, refl, sym, ap, subst, arith}
 use Rattle.std.specs.List.{IsDistinct}
+use Rattle.iom_walk_coherence.specs.Walks.{Walk}
 use Rattle.iom_base.specs.declared.grant_rights.GrantRights.{GrantRights}
 use Rattle.iom_base.specs.declared.owner.Owner.TheVariants.{OneDevice}
 use Rattle.iom_base.specs.GrantRights.{rights_of}
@@ -38,7 +39,7 @@ use Rattle.iom_world_effects.specs.Effect.{GrantsPage}
 use Rattle.iom_world_effects.specs.Frames.{ShowsFrames}
 use Rattle.iom_world_effects.specs.Parts.{Parts}
 use Rattle.iom_world_effects.specs.Shows.{PartsShow}
-use Rattle.iom_world_effects.specs.Invariant.{PartsInvariant}
+use Rattle.iom_world_effects.specs.Invariant.{InvariantWith}
 use Rattle.iom_world_refinement.proofs.ChoiceLemmas.{fewer_free}
 use Rattle.iom_world_effects.proofs.FrameLemmas.{shows_marked, shows_kept}
 use Rattle.iom_world_refinement.proofs.FreeLemmas.{free_in_machine, free_in_world}
@@ -73,7 +74,7 @@ fewer_than_limit old state frame count limit shows few lacks numbers distinct fr
     known : (n : ℕ) → IsFreeBesides state (Some frame) n → (n < length old.memory) × IsFreeForTable old.driver.owners old.driver.ledger (Some frame) n
     known n is_free = free_in_world old.memory old.driver.owners old.driver.ledger state (Some frame) n shows.ledger shows.frames (named n is_free.1) is_free.0
 
-may_lack_tables : (old : Parts) (events : ℕ) (state : State) (id page frame : ℕ) (why : Refusal) (stage : Stages) → PartsInvariant old events → PartsShow old state
+may_lack_tables : {walks : List Walk} (old : Parts) (events : ℕ) (state : State) (id page frame : ℕ) (why : Refusal) (stage : Stages) → InvariantWith walks old events → PartsShow old state
     → stages_of old.driver.devices id ≡ Some stage → LacksTables old.driver old.memory id page frame why → MayRefuseGrant state id frame why
 may_lack_tables old events state id page frame NoFrames stage invariants shows attached lacks =
     let size = size_in stage.mode in
@@ -130,7 +131,7 @@ free_tables old new id page frame rights takes state shows = λ k n lt.
       λ same. free.other (ap Some (sym same)),
     )
 
-pub grant_step : (old new : Parts) (events id page frame : ℕ) (rights : GrantRights) (reply : Outcome) → PartsInvariant old events → GrantsPage old id page frame rights reply new
+pub grant_step : {walks : List Walk} (old new : Parts) (events id page frame : ℕ) (rights : GrantRights) (reply : Outcome) → InvariantWith walks old events → GrantsPage old id page frame rights reply new
     → (state : State) → PartsShow old state → (taken : List ℕ) × (next : State) × machine.Grants taken state id page frame rights reply next × PartsShow new next
 grant_step old new events id page frame rights reply invariants effect state shows = by effect.answer effect.reply_is effect.call
   where

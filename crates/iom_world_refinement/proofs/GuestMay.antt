@@ -1,5 +1,6 @@
 -- A guest's own tables are read from frames that the device may read.
-use Rattle.std.proofs.Common.{◌≡◌, ◌*◌, ◌/◌, ◌%◌, ◌^◌, ◌<◌, ◌⊎◌, ◌∙◌, ℕ, Bool, get_or, Option, Some, None, Ok, option_map, refl, sym, ap, subst, arith, inl, inr}
+use Rattle.std.proofs.Common.{◌≡◌, ◌*◌, ◌/◌, ◌%◌, ◌^◌, ◌<◌, ◌⊎◌, ◌∙◌, ℕ, Bool, get_or, Option, Some, None, Ok, option_map, refl, sym, ap, subst, arith, inl, inr, List}
+use Rattle.iom_walk_coherence.specs.Walks.{Walk}
 use Rattle.iom_base.specs.declared.access.Access.{Access}
 use Rattle.iom_base.specs.declared.access.AccessKind.TheVariants.{Read}
 use Rattle.iom_base.specs.declared.mode.Mode.{Mode}
@@ -27,7 +28,7 @@ use Rattle.iom_stage_walk.specs.Laws.{IsLed}
 use Rattle.iom_world_effects.specs.Parts.{Parts}
 use Rattle.iom_world_effects.specs.Requests.{MayReadFrom, ReadsGuestTables}
 use Rattle.iom_world_effects.specs.Shows.{PartsShow}
-use Rattle.iom_world_effects.specs.Invariant.{PartsInvariant}
+use Rattle.iom_world_effects.specs.Invariant.{InvariantWith}
 use Rattle.iom_world_effects.proofs.DriverLemmas.{DriverInvariant}
 use Rattle.iom_world_effects.proofs.ServedLemmas.{ServiceLaws, found_as, located_as, held_inside, root_low, root_aligned}
 use Rattle.iom_world_effects.proofs.WalkLemmas.{leads_held}
@@ -68,7 +69,7 @@ owner_of levels id a (Some c) context are found = by (owned_stages a) (are c ref
         let own : context_for stage ≡ c = cc in
         let same : c ≡ context = cc in (stage, refl, sym (own ∙ same))
 
-module _ (laws : ServiceLaws) (parts : Parts) (events : ℕ) (invariants : PartsInvariant parts events) (own : DriverInvariant parts.driver) (state : State) (shows : PartsShow parts state)
+module _ {walks : List Walk} (laws : ServiceLaws) (parts : Parts) (events : ℕ) (invariants : InvariantWith walks parts events) (own : DriverInvariant parts.driver) (state : State) (shows : PartsShow parts state)
     (id : ℕ) (access : Access) where
   -- what the second stage of a device in both leads a read to, the device may read
   led_may : (root : ℕ) (size : Size) → AreTablesOf parts.memory parts.driver.owners parts.driver.ledger id (Both size) root

@@ -2,6 +2,7 @@
 use Rattle.std.proofs.Common.{◌≡◌, ◌==◌, ◌++◌, ◌∙◌, inl, inr, ℕ, Bool, true, false, List, [], ◌∷◌, length, map, nat_le, Option, Some, None, MatchOption, Result, Ok, Err, refl, sym, ap, subst, if◌then◌else◌}
 use Rattle.std.specs.Option.{option_map_or}
 use Rattle.std.proofs.lemmas.Bool.{false≢true}
+use Rattle.iom_walk_coherence.specs.Walks.{Walk}
 use Rattle.iom_base.specs.declared.access.AcceptedAccess.{AcceptedAccess}
 use Rattle.iom_driver.specs.declared.device.Attachment.TheVariants as attached
 use Rattle.iom_driver.specs.declared.device.Device as driver
@@ -33,7 +34,7 @@ use Rattle.iom_world_effects.specs.Answers.{outcome_of_done}
 use Rattle.iom_world_effects.specs.Effect.{PlugsDevice, PlugsIn, LacksDisk, AddsRow, new_device, devices_after}
 use Rattle.iom_world_effects.specs.Parts.{Parts}
 use Rattle.iom_world_effects.specs.Shows.{PartsShow}
-use Rattle.iom_world_effects.specs.Invariant.{PartsInvariant}
+use Rattle.iom_world_effects.specs.Invariant.{InvariantWith}
 use Rattle.iom_world_refinement.proofs.ReasonLemmas.{plug_first, none_known}
 use Rattle.iom_world_effects.proofs.UnchangedLemmas.{shows_same}
 
@@ -160,7 +161,7 @@ three_first false true missing = refl
 three_first false false true = refl
 three_first false false false = refl
 
-reasons_first : (old : Parts) (events : ℕ) (state : State) (id : ℕ) (what : NewDevice) → PartsInvariant old events → PartsShow old state
+reasons_first : {walks : List Walk} (old : Parts) (events : ℕ) (state : State) (id : ℕ) (what : NewDevice) → InvariantWith walks old events → PartsShow old state
     → first_that_applies (refusals.plug_reasons state id what) ≡ then_missing (first_that_applies (why_not_plug old.driver id)) (is_missing state.disks (disk_of what))
 reasons_first old events state id what invariants shows =
     three_first (refusals.is_plugged state id) (nat_le state.limits.devices (length state.devices)) (is_missing state.disks (disk_of what))
@@ -174,7 +175,7 @@ refused_so None true why found is = absurd (false≢true (sym (found refl)))
 refused_so None false why found is = subst MayRefusePlug (sym is) tt
 
 -- where one disk is named that isn't at hand
-lacks_step : (disks : List ℕ) (old new : Parts) (events id : ℕ) (what : NewDevice) (reply : Outcome) → PartsInvariant old events → LacksDisk disks old id what reply new
+lacks_step : {walks : List Walk} (disks : List ℕ) (old new : Parts) (events id : ℕ) (what : NewDevice) (reply : Outcome) → InvariantWith walks old events → LacksDisk disks old id what reply new
     → (state : State) → PartsShow old state → state.disks ≡ disks → (next : State) × machine.Plugs state id what reply next × PartsShow new next
 lacks_step disks old new events id what reply invariants lacks state shows same =
     let missing : is_missing state.disks (disk_of what) ≡ true = ap (λ (ds : List ℕ). is_missing ds (disk_of what)) same ∙ lacks.missing in
@@ -186,7 +187,7 @@ lacks_step disks old new events id what reply invariants lacks state shows same 
     )
 
 -- where the driver is told
-plugs_step : (disks : List ℕ) (old new : Parts) (events id : ℕ) (what : NewDevice) (reply : Outcome) → PartsInvariant old events → PlugsIn disks old id what reply new
+plugs_step : {walks : List Walk} (disks : List ℕ) (old new : Parts) (events id : ℕ) (what : NewDevice) (reply : Outcome) → InvariantWith walks old events → PlugsIn disks old id what reply new
     → (state : State) → PartsShow old state → state.disks ≡ disks → (next : State) × machine.Plugs state id what reply next × PartsShow new next
 plugs_step disks old new events id what reply invariants effect state shows same = by effect.answer effect.reply_is effect.call effect.row effect.devices
   where
@@ -213,7 +214,7 @@ plugs_step disks old new events id what reply invariants effect state shows same
       shows_same old new state effect.memory (ap (λ (i : Iommu). flights_of i) row) devices call.1 shows,
     )
 
-pub plug_step : (disks : List ℕ) (old new : Parts) (events id : ℕ) (what : NewDevice) (reply : Outcome) → PartsInvariant old events → PlugsDevice disks old id what reply new
+pub plug_step : {walks : List Walk} (disks : List ℕ) (old new : Parts) (events id : ℕ) (what : NewDevice) (reply : Outcome) → InvariantWith walks old events → PlugsDevice disks old id what reply new
     → (state : State) → PartsShow old state → state.disks ≡ disks → (next : State) × machine.Plugs state id what reply next × PartsShow new next
 plug_step disks old new events id what reply invariants (inl lacks) state shows same = lacks_step disks old new events id what reply invariants lacks state shows same
 plug_step disks old new events id what reply invariants (inr effect) state shows same = plugs_step disks old new events id what reply invariants effect state shows same

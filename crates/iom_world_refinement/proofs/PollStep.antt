@@ -3,6 +3,7 @@ use Rattle.std.proofs.Common.{suc, zero, ◌≡◌, ◌≢◌, ◌+◌, ◌-◌,
 use Rattle.std.proofs.lemmas.Bool.{false≢true, or_from}
 use Rattle.std.proofs.lemmas.Bool.Decides.{eqb_tells, leb_tells}
 use Rattle.std.proofs.lemmas.List.Elements.{All-nil}
+use Rattle.iom_walk_coherence.specs.Walks.{Walk}
 use Rattle.iom_base.specs.declared.owner.Owner.{Owner}
 use Rattle.iom_base.specs.declared.owner.Owner.TheVariants.{System, OneDevice}
 use Rattle.iom_driver.specs.declared.answers.Polled.{Polled}
@@ -42,7 +43,7 @@ use Rattle.iom_world_effects.specs.Effect.{PollsTickets, outcome_of_poll}
 use Rattle.iom_world_effects.specs.Frames.{ShowsFrames}
 use Rattle.iom_world_effects.specs.Parts.{Parts}
 use Rattle.iom_world_effects.specs.Shows.{PartsShow}
-use Rattle.iom_world_effects.specs.Invariant.{PartsInvariant}
+use Rattle.iom_world_effects.specs.Invariant.{InvariantWith}
 use Rattle.iom_world_refinement.proofs.BackFrames.{mark_back, GivesFramesBack, back, shows_given_back}
 use Rattle.iom_world_effects.proofs.DriverLemmas.{DriverInvariant}
 use Rattle.iom_world_effects.proofs.FrameLemmas.{shows_kept}
@@ -198,7 +199,7 @@ as_driver old count state invariants shows id =
     (λ ticket stage at. invariants.leaving id ticket stage at)
 
 -- an owner has left in the machine where it has in the driver
-owner_left : (old : Parts) (events count : ℕ) (state : State) → PartsInvariant old events → DriverInvariant old.driver → PartsShow old state → (owner : Owner)
+owner_left : {walks : List Walk} (old : Parts) (events count : ℕ) (state : State) → InvariantWith walks old events → DriverInvariant old.driver → PartsShow old state → (owner : Owner)
     → is_of_left (confirmed_state old count state) (Some owner) ≡ driver.is_gone (old.driver.confirmed + count) old.driver.devices owner
 owner_left old events count state invariants driver_invariant shows System = refl
 owner_left old events count state invariants driver_invariant shows (OneDevice id) =
@@ -207,7 +208,7 @@ owner_left old events count state invariants driver_invariant shows (OneDevice i
     ∙ left_as h (old.driver.confirmed + count) (attachment_by_id old.driver.devices id) (as_driver old count state driver_invariant shows id)
 
 -- what a world shows after so many tickets were confirmed, and what they leave is given back
-shows_polled : (old new : Parts) (events : ℕ) (state : State) (polled : Polled) → PartsInvariant old events → DriverInvariant old.driver → new.iommu ≡ old.iommu → new.devices ≡ old.devices → PartsShow old state
+shows_polled : {walks : List Walk} (old new : Parts) (events : ℕ) (state : State) (polled : Polled) → InvariantWith walks old events → DriverInvariant old.driver → new.iommu ≡ old.iommu → new.devices ≡ old.devices → PartsShow old state
     → ConfirmsDone (registers_of old.iommu) old.driver old.memory polled new.driver new.memory
     → PartsShow new (with_left (confirmed_state old polled.count state))
 shows_polled old new events state polled invariants driver_invariant iommu devices shows does_confirm =
@@ -296,7 +297,7 @@ started_refuses : (started : Bool) (why : Refusal) → started ≡ true → firs
 started_refuses true why on refused = cc
 started_refuses false why on refused = false≢true on
 
-pub poll_step : (old new : Parts) (events after : ℕ) (reply : Outcome) → PartsInvariant old events → DriverInvariant old.driver → PartsInvariant new after → PollsTickets old reply new
+pub poll_step : {walks : List Walk} (old new : Parts) (events after : ℕ) (reply : Outcome) → InvariantWith walks old events → DriverInvariant old.driver → InvariantWith walks new after → PollsTickets old reply new
     → ((s : State) → PartsShow new s → EachInFlightMay s) → (state : State) → PartsShow old state → (next : State) × machine.Polls [] state reply next × PartsShow new next
 poll_step old new events later reply invariants driver_invariant invariants' effect may state shows = by effect.answer effect.reply_is effect.call
   where

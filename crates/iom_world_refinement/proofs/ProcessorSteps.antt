@@ -1,6 +1,7 @@
 -- What the processor writes and reads, and what it is told of a frame: lawful steps of the ledger machine.
 use Rattle.std.proofs.Common.{◌≡◌, ◌/◌, ◌%◌, ◌+◌, ◌<◌, ◌≤◌, ◌∙◌, ℕ, true, false, List, length, nat_le, Option, Some, None, slice_range, refl, sym, ap, subst}
 use Rattle.std.proofs.lemmas.Bool.{le-leb, lt-leb}
+use Rattle.iom_walk_coherence.specs.Walks.{Walk}
 use Rattle.iom_world_effects.proofs.SoundFrom.{unmarked}
 use Rattle.iom_base.specs.declared.refusal.Refusal.{Refusal}
 use Rattle.iom_base.specs.declared.refusal.Refusal.TheVariants.{FrameOutOfRange, FrameReserved}
@@ -14,7 +15,7 @@ use Rattle.iom_base.specs.Refusals.{IsRefusedBy, NoneApplies}
 use Rattle.iom_world_effects.specs.Parts.{Parts}
 use Rattle.iom_world_effects.specs.Processor.{PokesBytes, PeeksBytes, AsksFree, StoresIfAny, ShowsAt, IsNoPlace}
 use Rattle.iom_world_effects.specs.Shows.{PartsShow}
-use Rattle.iom_world_effects.specs.Invariant.{PartsInvariant}
+use Rattle.iom_world_effects.specs.Invariant.{InvariantWith}
 use Rattle.iom_world_effects.proofs.FrameLemmas.{reserved_shown}
 use Rattle.iom_world_refinement.proofs.FreeLemmas.{free_in_machine, free_in_world}
 use Rattle.iom_driver.proofs.Lists.{get_within}
@@ -43,7 +44,7 @@ module _ (old : Parts) (state : State) (shows : PartsShow old state) where
   no_place frame FrameReserved place = rw (is_inside frame place.0, reserved_shown old.memory old.driver.owners state.frames frame shows.frames ∙ place.1) refl
   no_place frame _ place = absurd place
 
-  step_if_any : (events address : ℕ) (bytes : List ℕ) (reply : Outcome) (memory : List (List ℕ)) → PartsInvariant old events → StoresIfAny old address bytes reply memory
+  step_if_any : {walks : List Walk} (events address : ℕ) (bytes : List ℕ) (reply : Outcome) (memory : List (List ℕ)) → InvariantWith walks old events → StoresIfAny old address bytes reply memory
       → (next : State) × Pokes state address bytes reply next × PartsShow (record old { memory = memory }) next
   step_if_any events address bytes Done memory invariants stores =
       let frame = address / 4096 in
@@ -69,7 +70,7 @@ module _ (old : Parts) (state : State) (shows : PartsShow old state) where
   step_if_any events address bytes _ memory invariants stores = absurd stores
 
   -- what is read of a frame that is nobody's is what the machine has
-  shown_bytes : (events address len : ℕ) (shown : List ℕ) → PartsInvariant old events → ShowsAt old address len shown → address / 4096 < length old.memory → ShowsBytes state address len shown
+  shown_bytes : {walks : List Walk} (events address len : ℕ) (shown : List ℕ) → InvariantWith walks old events → ShowsAt old address len shown → address / 4096 < length old.memory → ShowsBytes state address len shown
   shown_bytes events address len shown invariants at below = (
     at.long,
     (λ unreserved.
@@ -78,7 +79,7 @@ module _ (old : Parts) (state : State) (shows : PartsShow old state) where
         at.part ∙ ap (λ b. slice_range b (address % 4096) (address % 4096 + len)) (sym (bytes_shown old.memory old.driver.owners state.frames frame at.bytes shows.frames free at.there))),
   )
 
-  peeks : (events address len : ℕ) (reply : Outcome) → PartsInvariant old events → PeeksBytes old address len reply → Peeks state address len reply state
+  peeks : {walks : List Walk} (events address len : ℕ) (reply : Outcome) → InvariantWith walks old events → PeeksBytes old address len reply → Peeks state address len reply state
   peeks events address len (Bytes shown) invariants at =
       let below = get_within old.memory (address / 4096) at.bytes at.there in
       (at.fits, none_applies (address / 4096) below, shown_bytes events address len shown.items invariants at below, refl)
@@ -87,7 +88,7 @@ module _ (old : Parts) (state : State) (shows : PartsShow old state) where
   peeks events address len _ invariants never = absurd never
 
   -- a frame is free in the machine exactly where the driver finds it free
-  tells_free : (events frame : ℕ) (reply : Outcome) → PartsInvariant old events → AsksFree old frame reply → TellsFree state frame reply state
+  tells_free : {walks : List Walk} (events frame : ℕ) (reply : Outcome) → InvariantWith walks old events → AsksFree old frame reply → TellsFree state frame reply state
   tells_free events frame (Free is_free) invariants asks = (
     none_applies frame asks.0,
     (
@@ -103,16 +104,16 @@ module _ (old : Parts) (state : State) (shows : PartsShow old state) where
   tells_free events frame (Refused why) invariants asks = (refused_outside frame why asks.0 asks.1, refl)
   tells_free events frame _ invariants asks = absurd asks
 
-pub poked_step : (old new : Parts) (events address : ℕ) (bytes : List ℕ) (reply : Outcome) → PartsInvariant old events → PokesBytes old address bytes reply new
+pub poked_step : {walks : List Walk} (old new : Parts) (events address : ℕ) (bytes : List ℕ) (reply : Outcome) → InvariantWith walks old events → PokesBytes old address bytes reply new
     → (state : State) → PartsShow old state → (next : State) × Pokes state address bytes reply next × PartsShow new next
 poked_step old new events address bytes reply invariants pokes state shows =
     let step = step_if_any old state shows events address bytes reply new.memory invariants pokes.memory in
     (step.0, step.1, shows_same (record old { memory = new.memory }) new step.0 (parts_are new new.memory old.iommu old.driver old.devices old.fabric refl pokes.iommu pokes.driver pokes.devices pokes.fabric) step.2)
 
-pub peeked_step : (old : Parts) (events address len : ℕ) (reply : Outcome) → PartsInvariant old events → PeeksBytes old address len reply
+pub peeked_step : {walks : List Walk} (old : Parts) (events address len : ℕ) (reply : Outcome) → InvariantWith walks old events → PeeksBytes old address len reply
     → (state : State) → PartsShow old state → Peeks state address len reply state
 peeked_step old events address len reply invariants shown state shows = peeks old state shows events address len reply invariants shown
 
-pub asked_free_step : (old : Parts) (events frame : ℕ) (reply : Outcome) → PartsInvariant old events → AsksFree old frame reply
+pub asked_free_step : {walks : List Walk} (old : Parts) (events frame : ℕ) (reply : Outcome) → InvariantWith walks old events → AsksFree old frame reply
     → (state : State) → PartsShow old state → TellsFree state frame reply state
 asked_free_step old events frame reply invariants asks state shows = tells_free old state shows events frame reply invariants asks

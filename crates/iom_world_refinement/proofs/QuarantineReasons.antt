@@ -1,5 +1,6 @@
 -- Why the ledger machine refuses a quarantine: for the first of the driver's own reasons.
-use Rattle.std.proofs.Common.{◌≡◌, ◌||◌, ◌-◌, ◌∙◌, ℕ, Bool, true, false, not, [], ◌∷◌, Option, Some, None, MatchOption, nat_le, refl, sym, subst}
+use Rattle.std.proofs.Common.{◌≡◌, ◌||◌, ◌-◌, ◌∙◌, ℕ, Bool, true, false, not, [], ◌∷◌, Option, Some, None, MatchOption, nat_le, refl, sym, subst, List}
+use Rattle.iom_walk_coherence.specs.Walks.{Walk}
 use Rattle.iom_driver.specs.declared.device.Attachment as owned
 use Rattle.iom_driver.specs.declared.device.Attachment.TheVariants as attached
 use Rattle.iom_driver.specs.Devices as as_known
@@ -20,7 +21,7 @@ use Rattle.iom_machine.specs.Tickets.{pending_tickets}
 use Rattle.iom_world_effects.specs.Devices.{shown_attachment}
 use Rattle.iom_world_effects.specs.Parts.{Parts}
 use Rattle.iom_world_effects.specs.Shows.{PartsShow}
-use Rattle.iom_world_effects.specs.Invariant.{PartsInvariant}
+use Rattle.iom_world_effects.specs.Invariant.{InvariantWith}
 use Rattle.iom_world_refinement.proofs.ReasonLemmas.{there_shown, how_shown, many_shown}
 
 -- the first reason of the machine's, where the device is there or not, is attached so, and where as many tickets wait as may
@@ -70,7 +71,7 @@ first_same : (there there' many many' : Bool) (attachment attachment' : Attachme
 first_same there there' many many' attachment attachment' same attached as_many = rw (same, attached, as_many) refl
 
 -- the machine's first reason, by what the driver knows
-quarantine_first : (parts : Parts) (events : ℕ) (state : State) (id : ℕ) → PartsInvariant parts events → PartsShow parts state
+quarantine_first : {walks : List Walk} (parts : Parts) (events : ℕ) (state : State) (id : ℕ) → InvariantWith walks parts events → PartsShow parts state
     → first_that_applies (machine.quarantine_reasons state id)
     ≡ machine_first (has_device parts.driver.devices id) (shown_attachment (as_known.attachment_by_id parts.driver.devices id)) (nat_le pending_limit (parts.driver.given - parts.driver.confirmed))
 quarantine_first parts events state id invariants shows =
@@ -84,7 +85,7 @@ started_first : (started there : Bool) (how : owned.Attachment) (many full used 
     → driver_first true there how many full used ≡ reply
 started_first started there how many full used reply on first = subst (λ s. driver_first s there how many full used ≡ reply) on first
 
-pub quarantine_refused_by : (parts : Parts) (events : ℕ) (state : State) (id : ℕ) (why : Refusal) → PartsInvariant parts events → PartsShow parts state
+pub quarantine_refused_by : {walks : List Walk} (parts : Parts) (events : ℕ) (state : State) (id : ℕ) (why : Refusal) → InvariantWith walks parts events → PartsShow parts state
     → first_that_applies (why_not_quarantine parts.driver (registers_of parts.iommu) id) ≡ Some why → IsRefusedBy (machine.quarantine_reasons state id) MayFindNoPlace why
 quarantine_refused_by parts events state id why invariants shows first =
     let d = parts.driver in
@@ -95,7 +96,7 @@ quarantine_refused_by parts events state id why invariants shows first =
     subst (λ o. MatchOption o (MayFindNoPlace why) (λ one. why ≡ one)) (sym (quarantine_first parts events state id invariants shows))
     (quarantined_refused (has_device d.devices id) how many full used why (started_first d.started (has_device d.devices id) how many full used (Some why) invariants.started first))
 
-pub may_quarantine : (parts : Parts) (events : ℕ) (state : State) (id : ℕ) → PartsInvariant parts events → PartsShow parts state
+pub may_quarantine : {walks : List Walk} (parts : Parts) (events : ℕ) (state : State) (id : ℕ) → InvariantWith walks parts events → PartsShow parts state
     → NoneApplies (why_not_quarantine parts.driver (registers_of parts.iommu) id) → NoneApplies (machine.quarantine_reasons state id)
 may_quarantine parts events state id invariants shows none =
     let d = parts.driver in

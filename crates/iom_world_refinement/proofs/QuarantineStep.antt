@@ -1,6 +1,7 @@
 -- A quarantine of the driver is one of the ledger machine, and where it is refused nothing changes.
 use Rattle.std.proofs.Common.{◌≡◌, ◌+◌, ◌∙◌, ℕ, List, [], ◌∷◌, length, Option, Some, None, Result, Ok, Err, slice_get, refl, sym, ap, subst, arith}
 use Rattle.std.specs.Option.{option_map_or}
+use Rattle.iom_walk_coherence.specs.Walks.{Walk}
 use Rattle.iom_base.specs.Modes.{size_in}
 use Rattle.iom_base.specs.declared.size.Size.{Size}
 use Rattle.iom_base.specs.declared.owner.Owner.TheVariants.{System, OneDevice}
@@ -37,7 +38,7 @@ use Rattle.iom_iommu.specs.OwnIommu.{Iommu}
 use Rattle.iom_world_effects.specs.Parts.{Parts}
 use Rattle.iom_world_effects.specs.Recovery.{QuarantinesDevice}
 use Rattle.iom_world_effects.specs.Shows.{PartsShow}
-use Rattle.iom_world_effects.specs.Invariant.{PartsInvariant}
+use Rattle.iom_world_effects.specs.Invariant.{InvariantWith}
 use Rattle.iom_world_effects.proofs.CallRefused.{same_of}
 use Rattle.iom_world_effects.proofs.DriverLemmas.{DriverInvariant}
 use Rattle.iom_world_effects.proofs.FrameLemmas.{shows_kept}
@@ -63,7 +64,7 @@ size_quarantined d d' memory memory' io io' id ticket queues =
     ∙ length-without_context memory (root_level d.levels) (directory_frame (length memory)) id
 
 -- a frame that is nobody's is no page of the directory
-no_page : (old : Parts) (events : ℕ) (frame : ℕ) → PartsInvariant old events → slice_get old.driver.owners frame ≡ Some None
+no_page : {walks : List Walk} (old : Parts) (events : ℕ) (frame : ℕ) → InvariantWith walks old events → slice_get old.driver.owners frame ≡ Some None
     → ¬ HasPage old.memory (root_level old.driver.levels) (directory_frame (length old.memory)) frame
 no_page old events frame invariants free page =
     let stands = invariants.ready.stand.directory invariants.started in
@@ -80,7 +81,7 @@ quarantined state device id ticket = record (with_device state (record device { 
   last_ticket = ticket;
 }
 
-module _ (old new : Parts) (events id ticket : ℕ) (found : declared.Device) (invariants : PartsInvariant old events) (own : DriverInvariant old.driver)
+module _ {walks : List Walk} (old new : Parts) (events id ticket : ℕ) (found : declared.Device) (invariants : InvariantWith walks old events) (own : DriverInvariant old.driver)
     (queues : QueuesQuarantine mmio old.driver old.memory old.iommu id ticket new.driver new.memory new.iommu) (devices : new.devices ≡ old.devices)
     (state : State) (shows : PartsShow old state) (at : device_of state id ≡ Some found) (how : found.attachment ≡ Attached queues.stage.mode queues.stage.ats) where
   -- frames that are nobody's keep their bytes
@@ -120,7 +121,7 @@ module _ (old new : Parts) (events id ticket : ℕ) (found : declared.Device) (i
         limits = shows.limits;
       }
 
-pub quarantine_step : (old new : Parts) (events id : ℕ) (reply : Outcome) → PartsInvariant old events → DriverInvariant old.driver → QuarantinesDevice old id reply new
+pub quarantine_step : {walks : List Walk} (old new : Parts) (events id : ℕ) (reply : Outcome) → InvariantWith walks old events → DriverInvariant old.driver → QuarantinesDevice old id reply new
     → (state : State) → PartsShow old state → (next : State) × machine.Quarantines state id reply next × PartsShow new next
 quarantine_step old new events id reply invariants own effect state shows = by effect.answer effect.reply_is effect.call
   where

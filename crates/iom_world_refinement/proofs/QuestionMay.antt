@@ -1,10 +1,11 @@
 -- What the machine lets a device be told of a page: what a walk or the translation cache gives, and each refusal.
-use Rattle.std.proofs.Common.{◌≡◌, ◌/◌, ◌==◌, ◌||◌, ◌∙◌, inl, inr, ℕ, Bool, true, false, [], ◌∷◌, Contains, Option, None, Some, Ok, refl, sym, ap, subst}
+use Rattle.std.proofs.Common.{◌≡◌, ◌/◌, ◌==◌, ◌||◌, ◌∙◌, inl, inr, ℕ, Bool, true, false, [], ◌∷◌, Contains, Option, None, Some, Ok, refl, sym, ap, subst, List}
 use Rattle.std.specs.Option.{option_to_list}
 use Rattle.std.proofs.Math.Logic.{∥∥₁_map}
 use Rattle.std.proofs.lemmas.Bool.{eqb-true, false≢true}
 use Rattle.std.proofs.lemmas.Bool.Decides.{eqb_tells}
 use Rattle.std.proofs.lemmas.Grind.{not_there}
+use Rattle.iom_walk_coherence.specs.Walks.{Walk}
 use Rattle.iom_base.specs.declared.access.AccessKind.TheVariants.{Read}
 use Rattle.iom_base.specs.declared.cause.Cause.{Cause}
 use Rattle.iom_base.specs.declared.mode.Mode.{Mode}
@@ -37,7 +38,7 @@ use Rattle.iom_world_effects.specs.Parts.{Parts}
 use Rattle.iom_world_effects.specs.Read.{space_in, values_of}
 use Rattle.iom_world_effects.specs.Scenes.{IsSceneOf}
 use Rattle.iom_world_effects.specs.Shows.{PartsShow}
-use Rattle.iom_world_effects.specs.Invariant.{PartsInvariant}
+use Rattle.iom_world_effects.specs.Invariant.{InvariantWith}
 use Rattle.iom_world_effects.proofs.CachedMay.{in_history, reachable_in, leaves_none, detached_none}
 use Rattle.iom_world_effects.proofs.QuarantinedLemmas.{IsPending, show_formerly, quarantined_holds}
 use Rattle.iom_world_effects.proofs.DriverLemmas.{DriverInvariant}
@@ -123,7 +124,7 @@ shows_merely ledger history id page pair agrees merely = by (held_at history id 
     ]))))
 
 -- A CACHED TRANSLATION, that allows to read
-module _ (parts : Parts) (events : ℕ) (state : State) (id page : ℕ) (stage : Stages) (translation : Translation) (invariants : PartsInvariant parts events) (own : DriverInvariant parts.driver)
+module _ {walks : List Walk} (parts : Parts) (events : ℕ) (state : State) (id page : ℕ) (stage : Stages) (translation : Translation) (invariants : InvariantWith walks parts events) (own : DriverInvariant parts.driver)
     (shows : PartsShow parts state) (owned : owned_stages_of parts.driver.devices id ≡ Some stage)
     (cached : translations_of parts.iommu (space_in stage.mode stage.number, page) ≡ Some translation) (allowed : allows translation.rights Read ≡ true)
     (pending : IsPending parts.driver id) where
@@ -184,7 +185,7 @@ walked_tell state ledger (Both size) id page translation agrees (granted, rights
     (allowed, (λ kind allowing. (granted, rights, inl ((agrees.pages id granted).holds ∙ held), no_less kind allowing)))
 
 -- what the machine lets be told of a page
-pub may_tell : (parts : Parts) (events : ℕ) (state : State) (id address : ℕ) (answer : Translation) (sure : Bool) (new : Translations) → PartsInvariant parts events → DriverInvariant parts.driver
+pub may_tell : {walks : List Walk} (parts : Parts) (events : ℕ) (state : State) (id address : ℕ) (answer : Translation) (sure : Bool) (new : Translations) → InvariantWith walks parts events → DriverInvariant parts.driver
     → PartsShow parts state → has_ats (shown_attachment (attachment_by_id parts.driver.devices id)) ≡ true
     → IsAnswered sure parts.driver id address Read (translations_of parts.iommu) (Ok answer) new
     → MayTell (shown_attachment (attachment_by_id parts.driver.devices id)) state id (address / 4096) (Page answer.frame answer.rights)

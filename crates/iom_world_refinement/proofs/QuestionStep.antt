@@ -1,5 +1,6 @@
 -- A question that is answered is a lawful step of the ledger machine: its device may be told so, and nothing changes.
 use Rattle.std.proofs.Common.{◌≡◌, ◌*◌, ◌/◌, ◌^◌, ◌<◌, ◌==◌, ◌∙◌, ℕ, Bool, true, false, find, is_some, IsSomeAnd, List, Option, Some, None, option_map, Ok, Err, remove, slice_get, refl, sym, ap, subst, arith}
+use Rattle.iom_walk_coherence.specs.Walks.{Walk}
 use Rattle.iom_base.specs.declared.cause.Cause.{Cause}
 use Rattle.iom_driver.specs.Devices.{attachment_by_id}
 use Rattle.iom_fabric.specs.declared.message.Message.TheVariants as sent
@@ -27,7 +28,7 @@ use Rattle.iom_world_effects.specs.Frames.{ShowsFrames}
 use Rattle.iom_world_effects.specs.Parts.{Parts}
 use Rattle.iom_world_effects.specs.Places.{IsPresent}
 use Rattle.iom_world_effects.specs.Shows.{PartsShow}
-use Rattle.iom_world_effects.specs.Invariant.{PartsInvariant, HasAsker}
+use Rattle.iom_world_effects.specs.Invariant.{InvariantWith, HasAsker}
 use Rattle.iom_world_effects.proofs.DriverLemmas.{DriverInvariant}
 use Rattle.iom_world_effects.proofs.PartsLemmas.{StaysReported}
 use Rattle.iom_world_effects.proofs.PresentLemmas.{kind_present}
@@ -47,7 +48,7 @@ plugged_present devices id plugged = by (device_with devices id) refl plugged
     by None is plugged = cc
     by (Some device) is plugged = kind_present devices id device.kind (ap (option_map (λ (d : Device). d.kind)) is)
 
-module _ (laws : ServiceLaws) (old new : Parts) (events device page : ℕ) (invariants : PartsInvariant old events) (own : DriverInvariant old.driver) (reported : StaysReported old.driver) (low : page < 2 ^ 52)
+module _ {walks : List Walk} (laws : ServiceLaws) (old new : Parts) (events device page : ℕ) (invariants : InvariantWith walks old events) (own : DriverInvariant old.driver) (reported : StaysReported old.driver) (low : page < 2 ^ 52)
     (state : State) (shows : PartsShow old state) where
   fits : page * 4096 < 2 ^ 64
   fits = omega (arith, low)
@@ -95,7 +96,7 @@ module _ (laws : ServiceLaws) (old new : Parts) (events device page : ℕ) (inva
       (subst (λ o. IsSomeAnd o (λ (d : machine.Device). MayTell d.attachment state d.id page answer)) (sym found) may, refl)
 
 -- A QUESTION IS ANSWERED
-pub answered_step : ServiceLaws → (old new : Parts) (events place device epoch page : ℕ) (reply : Outcome) → PartsInvariant old events → DriverInvariant old.driver → StaysReported old.driver
+pub answered_step : {walks : List Walk} → ServiceLaws → (old new : Parts) (events place device epoch page : ℕ) (reply : Outcome) → InvariantWith walks old events → DriverInvariant old.driver → StaysReported old.driver
     → slice_get old.fabric place ≡ Some (record { device = device; message = sent.Ask epoch page }) → AnswersAsked old device epoch page (remove old.fabric place) reply new
     → (state : State) → PartsShow old state → Delivers device page state reply state × PartsShow new state
 answered_step laws old new events place device epoch page reply invariants own reported at answers state shows =

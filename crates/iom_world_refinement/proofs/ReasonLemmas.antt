@@ -3,6 +3,7 @@ use Rattle.std.proofs.Common.{suc, ◌≡◌, ◌==◌, ◌||◌, ◌&&◌, ◌-
 use Rattle.std.specs.Option.{option_map_or}
 use Rattle.std.proofs.lemmas.Bool.{false≢true}
 use Rattle.std.proofs.lemmas.Bool.Decides.{eqb_tells}
+use Rattle.iom_walk_coherence.specs.Walks.{Walk}
 use Rattle.iom_driver.specs.declared.device.Device as driver
 use Rattle.iom_driver.specs.declared.device.Attachment as owned
 use Rattle.iom_driver.specs.declared.device.Attachment.TheVariants as attached
@@ -37,7 +38,7 @@ use Rattle.iom_device.specs.declared.device.Device.{Device}
 use Rattle.iom_world_effects.specs.Devices.{shown_attachment, shown_devices}
 use Rattle.iom_world_effects.specs.Parts.{Parts}
 use Rattle.iom_world_effects.specs.Shows.{PartsShow}
-use Rattle.iom_world_effects.specs.Invariant.{PartsInvariant, known_ids, plugged_ids}
+use Rattle.iom_world_effects.specs.Invariant.{InvariantWith, known_ids, plugged_ids}
 use Rattle.iom_world_effects.proofs.FrameLemmas.{reserved_shown}
 use Rattle.iom_world_refinement.proofs.PlaceLemmas.{shown_of}
 use Rattle.iom_coherence.specs.Attachments.{caches_translations}
@@ -133,7 +134,7 @@ busy_shown a a' b b' one other = rw (one, other) refl
 
 -- FRAMES AND TICKETS
 
-pub frames_shown : (parts : Parts) (events : ℕ) (state : State) → PartsInvariant parts events → PartsShow parts state → length state.frames ≡ length parts.driver.owners
+pub frames_shown : {walks : List Walk} (parts : Parts) (events : ℕ) (state : State) → InvariantWith walks parts events → PartsShow parts state → length state.frames ≡ length parts.driver.owners
 frames_shown parts events state invariants shows = shows.frames.size ∙ invariants.ready.stand.size
 
 pub pending_shown : (parts : Parts) (state : State) → PartsShow parts state → pending_tickets state ≡ parts.driver.given - parts.driver.confirmed
@@ -251,7 +252,7 @@ many_shown parts state shows =
     ap (λ (limits : Limits). nat_le limits.pending (pending_tickets state)) shows.limits ∙ ap (nat_le pending_limit) (pending_shown parts state shows)
 
 -- the driver's reasons against a plug are the machine's first two
-pub plug_first : (parts : Parts) (events : ℕ) (state : State) (id : ℕ) → PartsInvariant parts events → PartsShow parts state
+pub plug_first : {walks : List Walk} (parts : Parts) (events : ℕ) (state : State) (id : ℕ) → InvariantWith walks parts events → PartsShow parts state
     → first_that_applies ((machine.is_plugged state id, AlreadyPlugged) ∷ (nat_le state.limits.devices (length state.devices), TooManyDevices) ∷ []) ≡ first_that_applies (why_not_plug parts.driver id)
 plug_first parts events state id invariants shows =
     let d = parts.driver in
@@ -262,10 +263,10 @@ plug_first parts events state id invariants shows =
     ∙ ap (nat_le 16) (ap (λ (ds : List declared.Device). length ds) shows.devices ∙ length-shown d.devices rows parts.devices ∙ sym (length-known d.devices parts.devices invariants.known.driver)))
 
 -- whether the device is there, and how it is attached
-pub there_shown : (parts : Parts) (events : ℕ) (state : State) (id : ℕ) → PartsInvariant parts events → PartsShow parts state → machine.is_plugged state id ≡ has_device parts.driver.devices id
+pub there_shown : {walks : List Walk} (parts : Parts) (events : ℕ) (state : State) (id : ℕ) → InvariantWith walks parts events → PartsShow parts state → machine.is_plugged state id ≡ has_device parts.driver.devices id
 there_shown parts events state id invariants shows = plugged_shown parts.driver.devices (flights_of parts.iommu).rows parts.devices state id invariants.known.driver shows.devices
 
-pub how_shown : (parts : Parts) (events : ℕ) (state : State) (id : ℕ) → PartsInvariant parts events → PartsShow parts state
+pub how_shown : {walks : List Walk} (parts : Parts) (events : ℕ) (state : State) (id : ℕ) → InvariantWith walks parts events → PartsShow parts state
     → attachment_of state id ≡ shown_attachment (as_known.attachment_by_id parts.driver.devices id)
 how_shown parts events state id invariants shows = attachment_shown parts.driver.devices (flights_of parts.iommu).rows parts.devices state id invariants.known.driver shows.devices
 
@@ -275,12 +276,12 @@ pub kind_shown : (known : List driver.Device) (rows : List FlightRow) (devices :
 kind_shown known rows [] id = refl
 kind_shown known rows (device ∷ others) id = elim (eqb_tells device.id id) [ inl e ↦ rw e.0 refl | inr ne ↦ rw ne.0 (kind_shown known rows others id) ]
 
-trusted_shown : (parts : Parts) (events : ℕ) (state : State) (id : ℕ) → PartsInvariant parts events → PartsShow parts state → is_trusted state id ≡ as_known.has_trusted_cache parts.driver.devices id
+trusted_shown : {walks : List Walk} (parts : Parts) (events : ℕ) (state : State) (id : ℕ) → InvariantWith walks parts events → PartsShow parts state → is_trusted state id ≡ as_known.has_trusted_cache parts.driver.devices id
 trusted_shown parts events state id invariants shows =
     ap (λ (ds : List declared.Device). option_map_or (λ (device : declared.Device). has_cache device.kind) (find (λ (d : declared.Device). d.id == id) ds) false) shows.devices
     ∙ kind_shown parts.driver.devices (flights_of parts.iommu).rows parts.devices id ∙ sym (invariants.known.trusted id)
 
-pub attach_first : (parts : Parts) (events : ℕ) (state : State) (id : ℕ) (ats : Bool) → PartsInvariant parts events → PartsShow parts state
+pub attach_first : {walks : List Walk} (parts : Parts) (events : ℕ) (state : State) (id : ℕ) (ats : Bool) → InvariantWith walks parts events → PartsShow parts state
     → first_that_applies (machine.attach_reasons state id ats) ≡ first_that_applies (why_not_attach parts.driver id ats)
 attach_first parts events state id ats invariants shows =
     let d = parts.driver in
@@ -291,13 +292,13 @@ attach_first parts events state id ats invariants shows =
     (ap (λ levels. nat_le (id_limit levels) id) shows.levels) (trusted_shown parts events state id invariants shows) invariants.started
 
 -- so the pages that may be granted to an attached device are those that the driver grants
-limit_shown : (parts : Parts) (events : ℕ) (state : State) (id : ℕ) → PartsInvariant parts events → PartsShow parts state → (stage : Stages)
+limit_shown : {walks : List Walk} (parts : Parts) (events : ℕ) (state : State) (id : ℕ) → InvariantWith walks parts events → PartsShow parts state → (stage : Stages)
     → as_known.attachment_by_id parts.driver.devices id ≡ attached.Attached stage → page_limit_under state.limits (attachment_of state id) ≡ page_limit_in (as_known.stages_of parts.driver.devices id)
 limit_shown parts events state id invariants shows stage is =
     ap (λ (limits : Limits). page_limit_under limits (attachment_of state id)) shows.limits
     ∙ ap page_limit_at (how_shown parts events state id invariants shows ∙ ap shown_attachment is) ∙ sym (ap (λ a. page_limit_in (attached_stages a)) is)
 
-pub grant_first : (parts : Parts) (events : ℕ) (state : State) (id page frame : ℕ) → PartsInvariant parts events → PartsShow parts state
+pub grant_first : {walks : List Walk} (parts : Parts) (events : ℕ) (state : State) (id page frame : ℕ) → InvariantWith walks parts events → PartsShow parts state
     → first_that_applies (machine.grant_reasons state id page frame) ≡ first_that_applies (why_not_grant parts.driver id page frame)
 grant_first parts events state id page frame invariants shows =
     let d = parts.driver in
@@ -319,7 +320,7 @@ place_shown parts id test reason =
     machine_first (has_device d.devices id) (shown_attachment (as_known.attachment_by_id d.devices id))
     ((test, reason) ∷ (nat_le pending_limit (d.given - d.confirmed), TooManyPending) ∷ [])
 
-place_first : (parts : Parts) (events : ℕ) (state : State) (id : ℕ) (test test' : Bool) (reason : Refusal) → PartsInvariant parts events → PartsShow parts state → test ≡ test'
+place_first : {walks : List Walk} (parts : Parts) (events : ℕ) (state : State) (id : ℕ) (test test' : Bool) (reason : Refusal) → InvariantWith walks parts events → PartsShow parts state → test ≡ test'
     → machine_first (machine.is_plugged state id) (attachment_of state id) ((test, reason) ∷ (nat_le state.limits.pending (pending_tickets state), TooManyPending) ∷ []) ≡ place_shown parts id test' reason
 place_first parts events state id test test' reason invariants shows as_test =
     let d = parts.driver in
@@ -328,7 +329,7 @@ place_first parts events state id test test' reason invariants shows as_test =
     (there_shown parts events state id invariants shows) (how_shown parts events state id invariants shows) as_test
     (many_shown parts state shows)
 
-release_first : (parts : Parts) (events : ℕ) (state : State) (id page : ℕ) → PartsInvariant parts events → PartsShow parts state
+release_first : {walks : List Walk} (parts : Parts) (events : ℕ) (state : State) (id page : ℕ) → InvariantWith walks parts events → PartsShow parts state
     → first_that_applies (machine.release_reasons state id page) ≡ place_shown parts id (is_none (held_in parts.driver.ledger id page)) NotGranted
 release_first parts events state id page invariants shows =
     let d = parts.driver in
@@ -339,7 +340,7 @@ started_first : (started there : Bool) (how : owned.Attachment) (later : List (B
     → driver_first true there how later ≡ reply
 started_first started there how later reply on first = subst (λ s. driver_first s there how later ≡ reply) on first
 
-pub release_refused_by : (parts : Parts) (events : ℕ) (state : State) (id page : ℕ) (why : Refusal) → PartsInvariant parts events → PartsShow parts state
+pub release_refused_by : {walks : List Walk} (parts : Parts) (events : ℕ) (state : State) (id page : ℕ) (why : Refusal) → InvariantWith walks parts events → PartsShow parts state
     → first_that_applies (why_not_release parts.driver (registers_of parts.iommu) id page) ≡ Some why → IsRefusedBy (machine.release_reasons state id page) MayFindNoPlace why
 release_refused_by parts events state id page why invariants shows first =
     let d = parts.driver in
@@ -349,7 +350,7 @@ release_refused_by parts events state id page why invariants shows first =
     (place_refused (has_device d.devices id) how (is_none (held_in d.ledger id page)) (nat_le pending_limit (d.given - d.confirmed)) (lacks_places (release_places (as_known.stages_of d.devices id)) r) (nat_le 4294967295 (last_fence d)) NotGranted why
     (started_first d.started (has_device d.devices id) how (releasing_reasons d r (release_places (as_known.stages_of d.devices id)) id page) (Some why) invariants.started first))
 
-pub may_release : (parts : Parts) (events : ℕ) (state : State) (id page : ℕ) → PartsInvariant parts events → PartsShow parts state
+pub may_release : {walks : List Walk} (parts : Parts) (events : ℕ) (state : State) (id page : ℕ) → InvariantWith walks parts events → PartsShow parts state
     → NoneApplies (why_not_release parts.driver (registers_of parts.iommu) id page) → NoneApplies (machine.release_reasons state id page)
 may_release parts events state id page invariants shows none =
     let d = parts.driver in
@@ -376,7 +377,7 @@ grants_shown ledger state id agrees = (forward, backward)
     backward (page, inl held) = ((grants_are_at_pages state id).1 (page, inl (held_shown ledger state id page agrees ∙ held)))
     backward (page, inr lingers) = ((grants_are_at_pages state id).1 (page, inr (lingering_shown ledger state id page agrees ∙ lingers)))
 
-pub detach_refused_by : (parts : Parts) (events : ℕ) (state : State) (id : ℕ) (why : Refusal) → PartsInvariant parts events → PartsShow parts state
+pub detach_refused_by : {walks : List Walk} (parts : Parts) (events : ℕ) (state : State) (id : ℕ) (why : Refusal) → InvariantWith walks parts events → PartsShow parts state
     → first_that_applies (why_not_detach parts.driver (registers_of parts.iommu) (has_grants state id) id) ≡ Some why → IsRefusedBy (machine.detach_reasons state id) MayFindNoPlace why
 detach_refused_by parts events state id why invariants shows first =
     let d = parts.driver in
@@ -386,7 +387,7 @@ detach_refused_by parts events state id why invariants shows first =
     (place_refused (has_device d.devices id) how (has_grants state id) (nat_le pending_limit (d.given - d.confirmed)) (lacks_places 3 r) (nat_le 4294967295 (last_fence d)) StillGranted why
     (started_first d.started (has_device d.devices id) how (detaching_reasons d r (has_grants state id)) (Some why) invariants.started first))
 
-pub may_detach : (parts : Parts) (events : ℕ) (state : State) (id : ℕ) → PartsInvariant parts events → PartsShow parts state
+pub may_detach : {walks : List Walk} (parts : Parts) (events : ℕ) (state : State) (id : ℕ) → InvariantWith walks parts events → PartsShow parts state
     → NoneApplies (why_not_detach parts.driver (registers_of parts.iommu) (has_grants state id) id) → NoneApplies (machine.detach_reasons state id)
 may_detach parts events state id invariants shows none =
     let d = parts.driver in

@@ -1,5 +1,6 @@
 -- A release of the driver is one of the ledger machine.
 use Rattle.std.proofs.Common.{◌≡◌, ◌≢◌, ◌+◌, ◌∙◌, ℕ, inl, List, [], ◌∷◌, length, Option, Some, None, Result, Ok, Err, slice_get, refl, sym, ap, subst, arith}
+use Rattle.iom_walk_coherence.specs.Walks.{Walk}
 use Rattle.iom_base.specs.Modes.{size_in}
 use Rattle.iom_base.specs.declared.owner.Owner.{Owner}
 use Rattle.iom_base.specs.declared.owner.Owner.TheVariants.{System, OneDevice}
@@ -24,7 +25,7 @@ use Rattle.iom_world_effects.specs.Effect.{ReleasesPage}
 use Rattle.iom_world_effects.specs.Frames.{ShowsFrames}
 use Rattle.iom_world_effects.specs.Parts.{Parts}
 use Rattle.iom_world_effects.specs.Shows.{PartsShow}
-use Rattle.iom_world_effects.specs.Invariant.{PartsInvariant}
+use Rattle.iom_world_effects.specs.Invariant.{InvariantWith}
 use Rattle.iom_world_effects.proofs.DriverLemmas.{DriverInvariant}
 use Rattle.iom_world_effects.proofs.FrameLemmas.{shows_kept}
 use Rattle.iom_world_refinement.proofs.ReasonLemmas.{release_refused_by, may_release}
@@ -79,7 +80,7 @@ shows_released old new id page ticket many invariants queues devices state shows
       limits = shows.limits;
     }
 
-pub release_step : (old new : Parts) (events id page : ℕ) (reply : Outcome) → PartsInvariant old events → DriverInvariant old.driver → ReleasesPage old id page reply new
+pub release_step : {walks : List Walk} (old new : Parts) (events id page : ℕ) (reply : Outcome) → InvariantWith walks old events → DriverInvariant old.driver → ReleasesPage old id page reply new
     → (state : State) → PartsShow old state → (next : State) × machine.Releases state id page reply next × PartsShow new next
 release_step old new events id page reply invariants driver_invariant effect state shows = by effect.answer effect.reply_is effect.call
   where

@@ -1,5 +1,6 @@
 -- A restart of the driver is one of the ledger machine, which sees nothing of it; and a refusal changes nothing.
-use Rattle.std.proofs.Common.{◌≡◌, ◌+◌, ◌∙◌, ℕ, Bool, true, false, nat_le, [], ◌∷◌, length, Some, Result, Ok, Err, slice_get, refl, sym, ap, subst}
+use Rattle.std.proofs.Common.{◌≡◌, ◌+◌, ◌∙◌, ℕ, Bool, true, false, nat_le, [], ◌∷◌, length, Some, Result, Ok, Err, slice_get, refl, sym, ap, subst, List}
+use Rattle.iom_walk_coherence.specs.Walks.{Walk}
 use Rattle.iom_base.specs.declared.owner.Owner.TheVariants.{System}
 use Rattle.iom_driver.specs.Fences.{last_fence}
 use Rattle.iom_driver.specs.Layout.{command_frame, completion_address}
@@ -23,7 +24,7 @@ use Rattle.iom_iommu.specs.OwnIommu.{Iommu}
 use Rattle.iom_world_effects.specs.Parts.{Parts}
 use Rattle.iom_world_effects.specs.Recovery.{RestartsQueue}
 use Rattle.iom_world_effects.specs.Shows.{PartsShow}
-use Rattle.iom_world_effects.specs.Invariant.{PartsInvariant}
+use Rattle.iom_world_effects.specs.Invariant.{InvariantWith}
 use Rattle.iom_world_effects.proofs.CallRefused.{same_of}
 use Rattle.iom_world_effects.proofs.DriverLemmas.{DriverInvariant}
 use Rattle.iom_world_effects.proofs.FrameLemmas.{shows_kept}
@@ -38,7 +39,7 @@ refused_so d why started first = by (nat_le 4294967295 (last_fence d)) (rw start
     by true is = let same : NumbersUsedUp ≡ why = cc in subst MayRefuseRestart same tt
     by false is = cc
 
-shows_restarted : (old new : Parts) (events : ℕ) → PartsInvariant old events → DriverInvariant old.driver → length new.memory ≡ length old.memory
+shows_restarted : {walks : List Walk} (old new : Parts) (events : ℕ) → InvariantWith walks old events → DriverInvariant old.driver → length new.memory ≡ length old.memory
     → (queues : QueuesRestart mmio old.driver old.memory old.iommu new.driver new.memory new.iommu) → new.devices ≡ old.devices
     → (state : State) → PartsShow old state → PartsShow new state
 shows_restarted old new events invariants own size queues devices state shows =
@@ -59,7 +60,7 @@ shows_restarted old new events invariants own size queues devices state shows =
       limits = shows.limits;
     }
 
-pub restart_step : (old new : Parts) (events : ℕ) (reply : Outcome) → PartsInvariant old events → DriverInvariant old.driver → length new.memory ≡ length old.memory
+pub restart_step : {walks : List Walk} (old new : Parts) (events : ℕ) (reply : Outcome) → InvariantWith walks old events → DriverInvariant old.driver → length new.memory ≡ length old.memory
     → RestartsQueue old reply new → (state : State) → PartsShow old state → machine.Restarts state reply state × PartsShow new state
 restart_step old new events reply invariants own size effect state shows = by effect.answer effect.reply_is effect.call
   where

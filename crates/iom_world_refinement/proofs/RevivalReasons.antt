@@ -1,6 +1,7 @@
 -- Why the ledger machine refuses a revival: for the first of the driver's own reasons.
-use Rattle.std.proofs.Common.{suc, ◌≡◌, ◌||◌, ◌<◌, ◌≤◌, ◌∙◌, ℕ, Bool, true, false, not, nat_lt, [], ◌∷◌, is_some, refl, ap, arith}
+use Rattle.std.proofs.Common.{suc, ◌≡◌, ◌||◌, ◌<◌, ◌≤◌, ◌∙◌, ℕ, Bool, true, false, not, nat_lt, [], ◌∷◌, is_some, refl, ap, arith, List}
 use Rattle.std.proofs.lemmas.Bool.{leb-true, leb-false}
+use Rattle.iom_walk_coherence.specs.Walks.{Walk}
 use Rattle.iom_driver.specs.declared.device.Attachment as owned
 use Rattle.iom_driver.specs.declared.device.Attachment.TheVariants as attached
 use Rattle.iom_driver.specs.declared.device.Stages.{Stages}
@@ -17,7 +18,7 @@ use Rattle.iom_machine.specs.declared.state.State.{State}
 use Rattle.iom_world_effects.specs.Devices.{shown_attachment}
 use Rattle.iom_world_effects.specs.Parts.{Parts}
 use Rattle.iom_world_effects.specs.Shows.{PartsShow}
-use Rattle.iom_world_effects.specs.Invariant.{PartsInvariant}
+use Rattle.iom_world_effects.specs.Invariant.{InvariantWith}
 use Rattle.iom_world_effects.proofs.DriverLemmas.{DriverInvariant}
 use Rattle.iom_world_refinement.proofs.ReasonLemmas.{there_shown, how_shown}
 
@@ -49,7 +50,7 @@ revive_same there there' started waits waits' attachment how same as_how on as_w
     by (attached.Leaving ticket stage) = refl
 
 -- THE CALL
-pub revive_first : (parts : Parts) (events : ℕ) (state : State) (id : ℕ) → PartsInvariant parts events → DriverInvariant parts.driver → PartsShow parts state
+pub revive_first : {walks : List Walk} (parts : Parts) (events : ℕ) (state : State) (id : ℕ) → InvariantWith walks parts events → DriverInvariant parts.driver → PartsShow parts state
     → first_that_applies (machine.revive_reasons state id) ≡ first_that_applies (why_not_revive parts.driver id)
 revive_first parts events state id invariants own shows =
     let d = parts.driver in

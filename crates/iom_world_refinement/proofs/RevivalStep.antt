@@ -1,6 +1,7 @@
 -- A revival of the driver is one of the ledger machine.
 use Rattle.std.proofs.Common.{◌≡◌, ◌∙◌, ℕ, List, [], length, Option, Some, None, MatchOption, Result, Ok, Err, refl, sym, ap, subst}
 use Rattle.std.specs.Option.{option_map_or}
+use Rattle.iom_walk_coherence.specs.Walks.{Walk}
 use Rattle.iom_base.specs.declared.owner.Owner.{Owner}
 use Rattle.iom_base.specs.declared.owner.Owner.TheVariants.{System}
 use Rattle.iom_directory_build.specs.Pages.{root_level}
@@ -34,7 +35,7 @@ use Rattle.iom_world_effects.specs.Parts.{Parts}
 use Rattle.iom_device.specs.Calls.{reset_of, with_reset, devices_revived}
 use Rattle.iom_world_effects.specs.Recovery.{RevivesDevice}
 use Rattle.iom_world_effects.specs.Shows.{PartsShow}
-use Rattle.iom_world_effects.specs.Invariant.{PartsInvariant}
+use Rattle.iom_world_effects.specs.Invariant.{InvariantWith}
 use Rattle.iom_world_effects.proofs.CacheSets as caches
 use Rattle.iom_world_effects.proofs.CallRefused.{same_of}
 use Rattle.iom_world_effects.proofs.DeviceLemmas.{attachment_set, attachment_other}
@@ -59,7 +60,7 @@ found_how : (found : Option declared.Device) (device : declared.Device) (how : A
 found_how None device how at is = cc
 found_how (Some other) device how at is = let same : other ≡ device = cc in ap (λ (d : declared.Device). d.attachment) (sym same) ∙ is
 
-shows_revived : (old new : Parts) (events id : ℕ) (found : declared.Device) → PartsInvariant old events → DriverInvariant old.driver → NoneApplies (why_not_revive old.driver id)
+shows_revived : {walks : List Walk} (old new : Parts) (events id : ℕ) (found : declared.Device) → InvariantWith walks old events → DriverInvariant old.driver → NoneApplies (why_not_revive old.driver id)
     → WritesContextAgain old.driver old.memory id new.driver new.memory → new.iommu ≡ old.iommu → new.devices ≡ with_reset old.devices id
     → (state : State) → PartsShow old state → device_of state id ≡ Some found → PartsShow new (revived_state state found)
 shows_revived old new events id found invariants own admitted writes iommu devices state shows at =
@@ -93,7 +94,7 @@ shows_revived old new events id found invariants own admitted writes iommu devic
     nobodys same = cc
 
 -- THE STEP
-pub revival_step : (old new : Parts) (events id : ℕ) (reply : Outcome) → PartsInvariant old events → DriverInvariant old.driver → RevivesDevice old id reply new
+pub revival_step : {walks : List Walk} (old new : Parts) (events id : ℕ) (reply : Outcome) → InvariantWith walks old events → DriverInvariant old.driver → RevivesDevice old id reply new
     → (state : State) → PartsShow old state → (next : State) × machine.Revives state id reply next × PartsShow new next
 revival_step old new events id reply invariants own revives state shows = by revives.answer revives.reply_is revives.call revives.devices
   where
@@ -120,7 +121,7 @@ revival_step old new events id reply invariants own revives state shows = by rev
     )
 
 -- THE COMMANDS that wait are the same
-pub revival_commands : (old new : Parts) (events id : ℕ) (reply : Outcome) → PartsInvariant old events → DriverInvariant old.driver → RevivesDevice old id reply new → waiting_in new ≡ waiting_in old
+pub revival_commands : {walks : List Walk} (old new : Parts) (events id : ℕ) (reply : Outcome) → InvariantWith walks old events → DriverInvariant old.driver → RevivesDevice old id reply new → waiting_in new ≡ waiting_in old
 revival_commands old new events id reply invariants own revives = by revives.answer revives.call
   where
     by : (answer : Result (Unit {0}) Refusal) → AnswersRevive old.driver old.memory id answer new.driver new.memory → waiting_in new ≡ waiting_in old

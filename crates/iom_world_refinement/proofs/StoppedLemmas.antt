@@ -1,6 +1,7 @@
 -- From a timeout to the next restart nothing goes on: each fetch is answered Stopped, and whatever happens leaves the completion word and the mark of the timeout.
 use Rattle.std.proofs.Common.{◌≡◌, ◌≢◌, ◌+◌, ◌*◌, ◌/◌, ◌⊎◌, ◌∙◌, inl, inr, ℕ, Bool, true, false, not, List, length, remove, Option, Some, None, Result, Ok, Err, slice_get, refl, sym, ap, subst, arith}
 use Rattle.std.proofs.lemmas.Bool.{false≢true}
+use Rattle.iom_walk_coherence.specs.Walks.{Walk}
 use Rattle.iom_base.specs.Accesses.{read_of, write_of, at_frame}
 use Rattle.iom_base.specs.declared.access.Access.{Access}
 use Rattle.iom_base.specs.declared.cause.Cause.{Cause}
@@ -70,7 +71,7 @@ use Rattle.iom_iommu.specs.OwnIommu.{Iommu}
 use Rattle.iom_world_effects.specs.Parts.{Parts}
 use Rattle.iom_world_effects.specs.Recovery.{QuarantinesDevice, RevivesDevice, RestartsQueue, TimesOutFence, ResetsDevice}
 use Rattle.iom_world_effects.specs.Requests.{AsksAccess, AsksTranslated}
-use Rattle.iom_world_effects.specs.Invariant.{PartsInvariant}
+use Rattle.iom_world_effects.specs.Invariant.{InvariantWith}
 use Rattle.iom_world_effects.specs.ThroughCache.{DeviceAsksThroughCache, TriesCache, FindsFrame, cached_frame}
 use Rattle.iom_world_effects.specs.Unable.{IsUnknown, IsUnable}
 use Rattle.iom_world_refinement.proofs.CommandsStay.{KeepsSystem, grant_keeps, poll_keeps, makes_keep, poke_keeps}
@@ -94,14 +95,14 @@ record LeavesFence (old : Parts) (memory : List (List ℕ)) (iommu : Iommu) : Ty
   word : slice_get memory (completion_frame (length old.memory)) ≡ slice_get old.memory (completion_frame (length old.memory))
 
 -- so the word stays, since memory is as large as the IOMMU was built for
-remains : (old new : Parts) (before counted : ℕ) → PartsInvariant old before → PartsInvariant new counted → LeavesFence old new.memory new.iommu → RemainsStopped old new
+remains : {walks : List Walk} (old new : Parts) (before counted : ℕ) → InvariantWith walks old before → InvariantWith walks new counted → LeavesFence old new.memory new.iommu → RemainsStopped old new
 remains old new before counted invariants then leaves =
     let size : length new.memory ≡ length old.memory = sym then.size ∙ leaves.frames ∙ invariants.size in (
       leaves.stopped,
       ap (λ k. word_at 4 new.memory (completion_address k)) size ∙ word_of_frame old.memory new.memory (completion_frame (length old.memory)) leaves.word,
     )
 
-module _ (old : Parts) (before : ℕ) (invariants : PartsInvariant old before) (own : DriverInvariant old.driver) (stopped : HasTimedOut old) where
+module _ {walks : List Walk} (old : Parts) (before : ℕ) (invariants : InvariantWith walks old before) (own : DriverInvariant old.driver) (stopped : HasTimedOut old) where
   -- nothing changes of memory and IOMMU
   nothing : LeavesFence old old.memory old.iommu
   nothing = record { stopped = stopped; frames = refl; word = refl }
@@ -387,7 +388,7 @@ module _ (old : Parts) (before : ℕ) (invariants : PartsInvariant old before) (
       by Empty call = absurd (false≢true (sym takes_none ∙ call.0))
       by Stopped call = (refl, halted (is_processing_commands (registers_of old.iommu)) takes_none call.0 call.1)
 
-module _ (old new : Parts) (before counted : ℕ) (invariants : PartsInvariant old before) (own : DriverInvariant old.driver) (reported : StaysReported old.driver) (then : PartsInvariant new counted)
+module _ {walks : List Walk} (old new : Parts) (before counted : ℕ) (invariants : InvariantWith walks old before) (own : DriverInvariant old.driver) (reported : StaysReported old.driver) (then : InvariantWith walks new counted)
     (stopped : HasTimedOut old) where
   unchanged : LeavesFence old new.memory new.iommu → RemainsStopped old new
   unchanged leaves = remains old new before counted invariants then leaves

@@ -1,5 +1,6 @@
 -- An access of a device through its own cache is a lawful step of the ledger machine.
-use Rattle.std.proofs.Common.{◌≡◌, ◌∙◌, inl, inr, ℕ, Bool, true, Option, None, Some, Result, Ok, Err, refl, sym, ap, subst, arith}
+use Rattle.std.proofs.Common.{◌≡◌, ◌∙◌, inl, inr, ℕ, Bool, true, Option, None, Some, Result, Ok, Err, refl, sym, ap, subst, arith, List}
+use Rattle.iom_walk_coherence.specs.Walks.{Walk}
 use Rattle.iom_base.specs.declared.access.Access.{Access}
 use Rattle.iom_base.specs.Accesses.{IsWithinPage, page_of, at_frame}
 use Rattle.iom_base.specs.declared.cause.Cause.{Cause}
@@ -27,7 +28,7 @@ use Rattle.iom_world_effects.specs.Devices.{shown_attachment, shown_device}
 use Rattle.iom_world_effects.specs.Parts.{Parts}
 use Rattle.iom_world_effects.specs.Requests.{outcome_of_reply}
 use Rattle.iom_world_effects.specs.Shows.{PartsShow}
-use Rattle.iom_world_effects.specs.Invariant.{PartsInvariant}
+use Rattle.iom_world_effects.specs.Invariant.{InvariantWith}
 use Rattle.iom_world_effects.specs.ThroughCache.{DeviceAsksThroughCache, TriesCache, FindsFrame, cached_frame}
 use Rattle.iom_world_effects.proofs.AtsContexts.{finds_none}
 use Rattle.iom_world_effects.proofs.DriverLemmas.{DriverInvariant}
@@ -51,7 +52,7 @@ GoesAs can frame state id access answer next =
 abbrev Steps : (DeviceKind → Bool) → State → ℕ → Access → Outcome → Parts → Type 0
 Steps can state id access answer new = (frame : ℕ) × (next : State) × GoesAs can frame state id access answer next × PartsShow new next
 
-module _ (can : DeviceKind → Bool) (laws : ServiceLaws) (old new : Parts) (events id : ℕ) (access : Access) (invariants : PartsInvariant old events) (own : DriverInvariant old.driver) (reported : StaysReported old.driver) (state : State) (shows : PartsShow old state)
+module _ {walks : List Walk} (can : DeviceKind → Bool) (laws : ServiceLaws) (old new : Parts) (events id : ℕ) (access : Access) (invariants : InvariantWith walks old events) (own : DriverInvariant old.driver) (reported : StaysReported old.driver) (state : State) (shows : PartsShow old state)
     (is : IsFound old.driver.devices (flights_of old.iommu).rows old.devices id) (able : can is.device.kind ≡ true) where
   abbrev MayTell : ℕ → State → Outcome → machine.Device → Type 0
   MayTell frame next answer device = MayAnswerThroughCache state device access frame answer × (next ≡ state_after_cached state device access frame answer)
@@ -136,7 +137,7 @@ module _ (can : DeviceKind → Bool) (laws : ServiceLaws) (old new : Parts) (eve
       (step_same outcome.Busy (full.0, is_busy old new events id invariants state shows is full.1) refl (shows_same old new state full.3 shows))
   tries answer (inr (inr finds)) = by_frame finds.0 finds.1 (cached_frame old id access) refl answer finds.2
 
-pub through_cache_step : (can : DeviceKind → Bool) → ServiceLaws → (old new : Parts) (events id : ℕ) (access : Access) (answer : Outcome) → PartsInvariant old events → DriverInvariant old.driver → StaysReported old.driver
+pub through_cache_step : {walks : List Walk} (can : DeviceKind → Bool) → ServiceLaws → (old new : Parts) (events id : ℕ) (access : Access) (answer : Outcome) → InvariantWith walks old events → DriverInvariant old.driver → StaysReported old.driver
     → DeviceAsksThroughCache can old id access answer new → (state : State) → PartsShow old state
     → (frame : ℕ) × (next : State) × GoesAs can frame state id access answer next × PartsShow new next
 through_cache_step can laws old new events id access answer invariants own reported asks state shows = elim asks [

@@ -1,5 +1,6 @@
 -- A request that says it is translated already, of a raw device, is a lawful step of the ledger machine.
 use Rattle.std.proofs.Common.{◌≡◌, ◌∙◌, inl, inr, ℕ, true, List, Result, Err, refl, sym, ap, subst}
+use Rattle.iom_walk_coherence.specs.Walks.{Walk}
 use Rattle.iom_base.specs.declared.access.Access.{Access}
 use Rattle.iom_base.specs.declared.cause.Cause.{Cause}
 use Rattle.iom_device_dir.specs.declared.context.Context.{Context}
@@ -24,7 +25,7 @@ use Rattle.iom_world_effects.specs.Devices.{shown_attachment, shown_device}
 use Rattle.iom_world_effects.specs.Parts.{Parts}
 use Rattle.iom_world_effects.specs.Requests.{AsksTranslated, outcome_of_reply}
 use Rattle.iom_world_effects.specs.Shows.{PartsShow}
-use Rattle.iom_world_effects.specs.Invariant.{PartsInvariant}
+use Rattle.iom_world_effects.specs.Invariant.{InvariantWith}
 use Rattle.iom_world_effects.proofs.DriverLemmas.{DriverInvariant}
 use Rattle.iom_world_effects.proofs.PartsLemmas.{StaysReported}
 use Rattle.iom_world_effects.proofs.PresentLemmas.{kind_present}
@@ -53,7 +54,7 @@ may_fault_translated parts state device id cause shows attached is (inr lacks) =
   subst (λ n. cause ≡ cause_without_context state n) (sym is) (lacks.1 ∙ ap (λ l. cause_at l id) (sym shows.levels)),
 )
 
-module _ (laws : ServiceLaws) (old new : Parts) (events id : ℕ) (access : Access) (invariants : PartsInvariant old events) (own : DriverInvariant old.driver)
+module _ {walks : List Walk} (laws : ServiceLaws) (old new : Parts) (events id : ℕ) (access : Access) (invariants : InvariantWith walks old events) (own : DriverInvariant old.driver)
     (reported : StaysReported old.driver) (driver : new.driver ≡ old.driver) (devices : new.devices ≡ old.devices) (fabric : new.fabric ≡ old.fabric) (state : State) (shows : PartsShow old state)
     (is : IsFound old.driver.devices (flights_of old.iommu).rows old.devices id) (able : forges is.device.kind ≡ true) (why : Cause)
     (found : ats_context_for old.memory (registers_of old.iommu) (contexts_of old.iommu) id ≡ Err why)
@@ -87,7 +88,7 @@ module _ (laws : ServiceLaws) (old new : Parts) (events id : ℕ) (access : Acce
   step_replied BadSpan call = step_same outcome.BadSpan call.0 (unchanged call.2 call.1)
   step_replied (Fault cause) call = step_fault cause call
 
-pub translated_step : ServiceLaws → (old new : Parts) (events id : ℕ) (access : Access) (answer : Outcome) → PartsInvariant old events → DriverInvariant old.driver → StaysReported old.driver
+pub translated_step : {walks : List Walk} → ServiceLaws → (old new : Parts) (events id : ℕ) (access : Access) (answer : Outcome) → InvariantWith walks old events → DriverInvariant old.driver → StaysReported old.driver
     → AsksTranslated old id access answer new → (state : State) → PartsShow old state → RequestsTranslated state id access answer state × PartsShow new state
 translated_step laws old new events id access answer invariants own reported asks state shows = elim asks [
   | inl unknown ↦ (

@@ -10,18 +10,18 @@ use Rattle.iom_hardware_runner.proofs.machine.Machine.settle_once.Goals as goal
 pub returns-then-is_stuck-clause-settles : goal.returns-then-is_stuck-clause-settles
 returns-then-is_stuck-clause-settles c =
     let stuck = c.is_stuck.ensures.0 c.if-is_stuck.true in
-    rests_stuck c.args.self.now.teller c.tell.new.self.teller c.in-Some.step c.in_ok-words.ensures.reply (c.is_fetch-is_fetch.ensures c.if-is_fetch.true) stuck.0
+    rests_stuck c.args.self.now.teller c.tell.new.self.teller c.in-Some.step c.in_ok-tell.ensures.reply (c.is_fetch-is_fetch.ensures c.if-is_fetch.true) stuck.0
     (stuck.1 ∙ c.command_head-head.ensures.value ∙ ap command_head c.registers.ensures ∙ ap (λ (b : Board). command_head (registers_of b.iommu)) c.hardware.ensures)
 
-pub returns-then-is_empty-clause-settles : goal.returns-then-is_empty-clause-settles
-returns-then-is_empty-clause-settles c =
+pub returns-then-has_violated-clause-settles : goal.returns-then-has_violated-clause-settles
+returns-then-has_violated-clause-settles c =
     let brings = brings_to_rest (is_stepped c.args.self.now.teller.session) in
-    does_one (AllPass brings) c.args.self.now.teller c.tell.new.self.teller c.in-Some.step c.in_ok-words.ensures.reply (all_one brings c.in-Some.step c.in-Some.ensures.some)
+    does_one (AllPass brings) c.args.self.now.teller c.tell.new.self.teller c.in-Some.step c.in_ok-tell.ensures.reply (all_one brings c.in-Some.step c.in-Some.ensures.some)
 
-pub returns-clause-settles : goal.returns-clause-settles
-returns-clause-settles c =
+pub returns-else-has_violated-clause-settles : goal.returns-else-has_violated-clause-settles
+returns-else-has_violated-clause-settles c =
     let brings = brings_to_rest (is_stepped c.args.self.now.teller.session) in
-    does_one (AllPass brings) c.args.self.now.teller c.tell.new.self.teller c.in-Some.step c.in_ok-words.ensures.reply (all_one brings c.in-Some.step c.in-Some.ensures.some)
+    does_one (AllPass brings) c.args.self.now.teller c.tell.new.self.teller c.in-Some.step c.in_ok-tell.ensures.reply (all_one brings c.in-Some.step c.in-Some.ensures.some)
 
 pub returns-in_default-clause-settles : goal.returns-in_default-clause-settles
 returns-in_default-clause-settles c =

@@ -4,11 +4,10 @@ use Rattle.iom_base.specs.declared.refusal.Refusal.{Refusal}
 use Rattle.iom_driver.specs.StateOf.{state_of}
 use Rattle.iom_board.specs.Commits.{CommitsOldestAccess}
 use Rattle.iom_inflight.specs.declared.made.MadeAt.{MadeAt}
-use Rattle.iom_machine.specs.declared.outcome.Outcome.{Outcome}
 use Rattle.iom_machine.specs.declared.outcome.Outcome.TheVariants as outcome
 use Rattle.iom_world.specs.OnHardware.{hardware_of}
 use Rattle.iom_world.specs.Shown.{parts_of}
-use Rattle.iom_world_effects.specs.Commits.{CommitsAccess, TellsKind}
+use Rattle.iom_world_effects.specs.Commits.{TellsKind}
 use Rattle.iom_world_effects.proofs.DriverLemmas.{driver_invariant}
 use Rattle.iom_world_effects.proofs.PartsLemmas.{stays_of}
 use Rattle.iom_world.proofs.InParts.{uncommitted}
@@ -17,7 +16,6 @@ use Rattle.iom_hardware.specs.Blocks.{GaveBytes, HearsIfMade, HearsOldest, oldes
 use Rattle.iom_hardware.specs.Inside.{inside}
 use Rattle.iom_inflight.specs.Flights.{row_of}
 use Rattle.iom_iommu.specs.Parts.{flights_of}
-use Rattle.iom_world.specs.Blocks.{CommitsOf}
 use Rattle.iom_world.specs.Shown.{inside_of}
 use Rattle.iom_world.proofs.world.World.commit.Given as given
 use Rattle.iom_world.proofs.world.World.commit.Goals as goal

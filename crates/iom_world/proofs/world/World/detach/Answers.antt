@@ -13,6 +13,7 @@ use Rattle.iom_world_effects.proofs.DriverLemmas.{driver_invariant}
 use Rattle.iom_world_effects.specs.Answers.{outcome_of_ticket}
 use Rattle.iom_world_effects.specs.BlockDevices.{devices_left}
 use Rattle.iom_world_effects.specs.Parts.{Parts}
+use Rattle.iom_world_effects.proofs.WalksLeft.{none_left}
 use Rattle.iom_world_invariant.proofs.DetachKeeps.{keeps_detached}
 use Rattle.iom_world_refinement.proofs.EventLemmas.{epochs_counted}
 
@@ -24,7 +25,7 @@ invariant_of-self g c =
     record {
       invariants = keeps_detached (parts_of world) new (world.hardware.board.events + 1) c.args.id (outcome_of_ticket c.detach-answer.result) (counted world) (driver_invariant world.driver)
           c.detach-answer.ensures.ready (epochs_counted (parts_of world) world.hardware.board.events world.invariants c.args.id)
-          record { answer = c.detach-answer.result; reply_is = refl; call = c.detach-answer.ensures.effect; devices = same; fabric = refl };
+          record { answer = c.detach-answer.result; reply_is = refl; call = c.detach-answer.ensures.effect; devices = same; fabric = refl } (none_left c.args.id);
       agrees = world.agrees;
       room = world.room;
     }
@@ -61,7 +62,7 @@ invariant_of-self-2 g c =
     record {
       invariants = at_count new (world.hardware.board.events + 1) c.remove_disk.new.self.board.events c.remove_disk.ensures.events
           (keeps_detached (parts_of world) new (world.hardware.board.events + 1) c.args.id (outcome.Ticket c.in-Ok.ticket.0) (counted world) (driver_invariant world.driver)
-          (ready_without_disk between new c.args.id refl goes c.detach-answer.ensures.ready) (epochs_counted (parts_of world) world.hardware.board.events world.invariants c.args.id) effect);
+          (ready_without_disk between new c.args.id refl goes c.detach-answer.ensures.ready) (epochs_counted (parts_of world) world.hardware.board.events world.invariants c.args.id) effect (none_left c.args.id));
       agrees = c.remove_disk.ensures.invariants.agrees;
       room = c.remove_disk.ensures.invariants.room;
     }

@@ -5,6 +5,7 @@ use Rattle.iom_machine.specs.declared.outcome.Outcome.{Outcome}
 use Rattle.iom_virtqueue.specs.Layouts.{layout_of}
 use Rattle.iom_world_effects.specs.Answers.{outcome_of_done}
 use Rattle.iom_world_effects.specs.BlockDevices.{SetsBlockQueue}
+use Rattle.iom_world_effects.proofs.WalksLeft.{none_left}
 use Rattle.iom_world_invariant.proofs.BlockKeeps.{keeps_queue}
 use Rattle.iom_world_refinement.proofs.EventLemmas.{epochs_counted}
 use Rattle.iom_world.specs.Blocks.{SetsQueueOf}
@@ -25,7 +26,7 @@ invariant_of-self g c =
     record {
       invariants = at_count new (world.hardware.board.events + 1) c.queue.new.self.board.events c.queue.ensures.counted.events
           (keeps_queue (parts_of world) new (world.hardware.board.events + 1) c.args.id layout (outcome_of_done c.queue.result) (counted world)
-          (epochs_counted (parts_of world) world.hardware.board.events world.invariants c.args.id) effect);
+          (epochs_counted (parts_of world) world.hardware.board.events world.invariants c.args.id) effect (none_left c.args.id));
       agrees = c.queue.ensures.invariants.agrees;
       room = c.queue.ensures.invariants.room;
     }

@@ -2,6 +2,7 @@ use Rattle.std.proofs.Common.{◌+◌, refl, sym, subst}
 use Rattle.iom_machine.specs.declared.outcome.Outcome.{Outcome}
 use Rattle.iom_world_effects.specs.Answers.{outcome_of_done}
 use Rattle.iom_world_effects.specs.Recovery.{ResetsDevice}
+use Rattle.iom_world_effects.proofs.WalksLeft.{none_left}
 use Rattle.iom_world_invariant.proofs.ResetKeeps.{keeps_reset}
 use Rattle.iom_world_refinement.proofs.EventLemmas.{epochs_counted}
 use Rattle.iom_world.proofs.InParts.{reset_in_parts}
@@ -23,7 +24,8 @@ invariant_of-self g c =
     let effect = reset_in_parts (parts_of world) new refl c.args.device c.reset.result c.reset.ensures.effect in
     record {
       invariants = at_count new (world.hardware.board.events + 1) c.reset.new.self.board.events c.reset.ensures.counted.events
-          (keeps_reset (parts_of world) new (world.hardware.board.events + 1) c.args.device (outcome_of_done c.reset.result) (counted world) (epochs_counted (parts_of world) world.hardware.board.events world.invariants c.args.device) effect);
+          (keeps_reset (parts_of world) new (world.hardware.board.events + 1) c.args.device (outcome_of_done c.reset.result) (counted world) (epochs_counted (parts_of world) world.hardware.board.events world.invariants c.args.device) effect
+          (none_left c.args.device));
       agrees = c.reset.ensures.invariants.agrees;
       room = c.reset.ensures.invariants.room;
     }

@@ -10,6 +10,7 @@ use Rattle.iom_world.proofs.world.World.revive.Goals as goal
 use Rattle.iom_world.specs.Shown.{parts_of}
 use Rattle.iom_world_effects.proofs.DriverLemmas.{driver_invariant}
 use Rattle.iom_world_effects.specs.Parts.{Parts}
+use Rattle.iom_world_effects.proofs.WalksLeft.{none_left}
 use Rattle.iom_world_invariant.proofs.RevivalKeeps.{keeps_revived}
 use Rattle.iom_world_refinement.proofs.EventLemmas.{epochs_counted}
 
@@ -43,7 +44,7 @@ invariant_of-self-2 g c =
     record {
       invariants = at_count new (world.hardware.board.events + 1) board.events c.reset.ensures.counted.events
           (keeps_revived (parts_of world) new (world.hardware.board.events + 1) c.args.id outcome.Done (counted world) (driver_invariant world.driver) ready
-          (epochs_counted (parts_of world) world.hardware.board.events world.invariants c.args.id) effect);
+          (epochs_counted (parts_of world) world.hardware.board.events world.invariants c.args.id) effect (none_left c.args.id));
       agrees = c.reset.ensures.invariants.agrees;
       room = c.reset.ensures.invariants.room;
     }

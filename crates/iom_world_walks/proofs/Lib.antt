@@ -1,0 +1,4 @@
+pub mod StillLemmas
+pub mod LeavingLemmas
+pub mod EffectsLeave
+pub mod TableLoads
