@@ -108,7 +108,7 @@ none_held_shown state ledger id access agrees none frame held =
     none frame (held.0, sym (agrees.pages id (access.address / 4096)).holds ∙ held.1, held.2)
 
 -- what the machine lets an attached device be accepted, and each fault
-may_accept : {walks : List Walk} (parts : Parts) (events : ℕ) (state : State) (id : ℕ) (answer : Translation) (access : Access) (sure : Bool) (old new : Translations) → InvariantWith walks parts events → DriverInvariant parts.driver → PartsShow parts state
+pub may_accept : {walks : List Walk} (parts : Parts) (events : ℕ) (state : State) (id : ℕ) (answer : Translation) (access : Access) (sure : Bool) (old new : Translations) → InvariantWith walks parts events → DriverInvariant parts.driver → PartsShow parts state
     → old ≡ translations_of parts.iommu → IsAnswered sure parts.driver id access.address access.kind old (Ok answer) new
     → MayAccept (shown_attachment (attachment_by_id parts.driver.devices id)) state id access answer.frame
 may_accept parts events state id answer access sure old new invariants own shows same (inl reaches) =
@@ -126,7 +126,7 @@ attached_fault (First size) ats state ledger id access cause agrees faults = (no
 attached_fault (Second size) ats state ledger id access cause agrees faults = (none_held_shown state ledger id access agrees faults.1, faults.0)
 attached_fault (Both size) ats state ledger id access cause agrees faults = faults
 
-may_fault : (a : Attachment) (parts : Parts) (state : State) (id : ℕ) (access : Access) (cause : Cause) → DriverInvariant parts.driver → PartsShow parts state
+pub may_fault : (a : Attachment) (parts : Parts) (state : State) (id : ℕ) (access : Access) (cause : Cause) → DriverInvariant parts.driver → PartsShow parts state
     → attachment_by_id parts.driver.devices id ≡ a → FaultsAs a parts.driver id access.address access.kind cause → MayFault (shown_attachment a) state id access cause
 may_fault driver.Detached parts state id access cause own shows is faults = faults ∙ ap (λ l. cause_at l id) (sym shows.levels)
 may_fault (driver.Attached stage) parts state id access cause own shows is faults = attached_fault stage.mode stage.ats state parts.driver.ledger id access cause shows.ledger faults

@@ -2,3 +2,14 @@ pub mod StillLemmas
 pub mod LeavingLemmas
 pub mod EffectsLeave
 pub mod TableLoads
+pub mod DirectoryLoads
+pub mod RootLoads
+pub mod FoundLoads
+pub mod RequestLoads
+pub mod LoadKeeps
+pub mod RowLoads
+pub mod BeginLoads
+pub mod BeginKeeps
+pub mod AnewKeeps
+pub mod LawLemmas
+pub mod EventKeeps

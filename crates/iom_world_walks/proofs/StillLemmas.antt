@@ -109,10 +109,10 @@ at_position size memory root asked (ToEntry loaded guest i below table left) sta
 at_position size memory root asked (AtEntry loaded guest i below frame) standing stands = inr (frame, stands.0)
 at_position size memory root asked (ToPage loaded page given level table left) standing stands = inl stands.0
 
-of_tables : (mode : Mode) (memory : List (List ℕ)) (root : ℕ) (asked : Asked) (rest : Walk TableAnswer) (standing : Standing) → StandsInMode mode memory root asked rest standing → IsOfTables standing
-of_tables (First size) memory root asked rest standing stands = inl stands.in_tables
-of_tables (Second size) memory root asked rest standing stands = inl stands.in_tables
-of_tables (Both size) memory root asked rest standing stands = at_position size memory root asked stands.position standing stands.stands
+pub at_standing : (mode : Mode) (memory : List (List ℕ)) (root : ℕ) (asked : Asked) (rest : Walk TableAnswer) (standing : Standing) → StandsInMode mode memory root asked rest standing → IsOfTables standing
+at_standing (First size) memory root asked rest standing stands = inl stands.in_tables
+at_standing (Second size) memory root asked rest standing stands = inl stands.in_tables
+at_standing (Both size) memory root asked rest standing stands = at_position size memory root asked stands.position standing stands.stands
 
 tables_stay : (scene : Scene) (id : ℕ) (standing : Standing) → IsOfTables standing → MayStand scene id standing → TablesStay scene (scene.attachment_of id)
 tables_stay scene id standing (inl is) may = subst (MayStand scene id) is may
@@ -151,7 +151,7 @@ module _ (driven : DrivenWalksStand) (old new : Parts) (events : ℕ) (under_way
           (leaves.standing.tables request.device stands.stage stands.owned owned) stands.stands;
     }
     | inr none ↦ absurd (never_without new events request.device standing invariants there
-        (of_tables stands.stage.mode old.memory stands.stage.root request.asked rest standing stands.stands) none)
+        (at_standing stands.stage.mode old.memory stands.stage.root request.asked rest standing stands.stands) none)
   ]
 
   remaining_still : (own : Request) (remaining : Remaining) → StandsAs old.driver old.memory under_way own remaining → StandsAs new.driver new.memory under_way own remaining
@@ -161,5 +161,8 @@ module _ (driven : DrivenWalksStand) (old new : Parts) (events : ℕ) (under_way
 
   pub rows_still : (rows : List WalkRow) → RowsStand old.driver old.memory under_way rows → RowsStand new.driver new.memory under_way rows
   rows_still rows stand row own there is =
-      subst (λ n. StandsAs new.driver new.memory under_way own.request (still_serving n own.serving)) (sym leaves.size)
-      (remaining_still own.request (still_serving (length old.memory) own.serving) (stand row own there is))
+      let before = stand row own there is in (
+        before.0,
+        subst (λ n. StandsAs new.driver new.memory under_way own.request (still_serving n own.serving)) (sym leaves.size)
+            (remaining_still own.request (still_serving (length old.memory) own.serving) before.1),
+      )

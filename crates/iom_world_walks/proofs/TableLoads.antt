@@ -166,7 +166,7 @@ module _ (laws : LoadLaws) (walk_laws : WalkLaws) (values : Values) (memory : Li
         (InTables, tt, record { table = next; left = later; in_tables = refl; canonical = canonical; on_path = on_path; remains = same })
 
     -- A FIRST STAGE
-    first_loaded : (rest : Walk TableAnswer) (from : Standing) → StandsInFirst size memory root asked rest from → HasLoaded values (First size) memory id root asked InTables (after_load memory rest)
+    pub first_loaded : (rest : Walk TableAnswer) (from : Standing) → StandsInFirst size memory root asked rest from → HasLoaded values (First size) memory id root asked InTables (after_load memory rest)
     first_loaded rest from stands = by (after_load memory rest) refl
       where
         now : after_load memory (first_rest (length memory) asked.kind stands.table stands.left) ≡ after_load memory rest
@@ -239,7 +239,7 @@ module _ (laws : LoadLaws) (walk_laws : WalkLaws) (values : Values) (memory : Li
     second_on (ReadsContext address rest) load (next, later, on_path, same) physical =
         (InTables, tt, record { table = next; left = later; in_tables = refl; physical = physical; on_path = on_path; remains = same })
 
-    second_loaded : (rest : Walk TableAnswer) (from : Standing) → StandsInSecond size memory root asked rest from → HasLoaded values (Second size) memory id root asked InTables (after_load memory rest)
+    pub second_loaded : (rest : Walk TableAnswer) (from : Standing) → StandsInSecond size memory root asked rest from → HasLoaded values (Second size) memory id root asked InTables (after_load memory rest)
     second_loaded rest from stands = by (after_load memory rest) refl
       where
         page : ℕ
@@ -270,11 +270,10 @@ module _ (laws : LoadLaws) (walk_laws : WalkLaws) (values : Values) (memory : Li
     held_now address kind frame rights leaf = pair_of_leaf (held_in values.ledger id (address / page_size)) frame rights (sym (both_mapped (address / page_size)) ∙ leaf.0)
 
     -- what stands somewhere in both stages goes on
-    both_on : (position : Position) (from to : Standing) (after : Walk TableAnswer) → StandsAt size memory root asked position to → MayGoOnThere values id from to → after ≡ rest_of w position → IsLoad after
-        → HasLoaded values (Both size) memory id root asked from after
-    both_on position from to (Ends answer) stands may same load = absurd load
-    both_on position from to (ReadsEntry address rest) stands may same load = (to, may, record { position = position; stands = stands; remains = same })
-    both_on position from to (ReadsContext address rest) stands may same load = (to, may, record { position = position; stands = stands; remains = same })
+    both_on : (from to : Standing) (after : Walk TableAnswer) → StandsInBoth size memory root asked after to → MayGoOnThere values id from to → IsLoad after → HasLoaded values (Both size) memory id root asked from after
+    both_on from to (Ends answer) stands may load = absurd load
+    both_on from to (ReadsEntry address rest) stands may load = (to, may, stands)
+    both_on from to (ReadsContext address rest) stands may load = (to, may, stands)
 
     -- a page fault of the second stage
     second_fault : (from : Standing) (address : ℕ) (implicit : Bool) (answer : TableAnswer) → answer ≡ Err (reported (guest_page_fault_of asked.kind) address implicit)
@@ -297,10 +296,11 @@ module _ (laws : LoadLaws) (walk_laws : WalkLaws) (values : Values) (memory : Li
         by : ((next : ℕ) × IsOnItsWay size memory root address next (done ++ j ∷ []) left × (After ≡ rest_of w (ToEntry loaded guest i below next left)))
             ⊎ (((frame : ℕ) × (rights : Rights) × HasLeafNow size memory root address Read frame rights × (After ≡ rest_of w (AtEntry loaded guest i below frame)))
             ⊎ ((fault : WalkFault) × (After ≡ Ends (Err fault)))) → HasLoaded values (Both size) memory id root asked InTables after
-        by (inl (next, further_on, same)) = both_on (ToEntry loaded guest i below next left) InTables InTables after (refl, done ++ j ∷ [], further_on) tt (sym is ∙ same) load
+        by (inl (next, further_on, same)) = both_on InTables InTables after (record { position = ToEntry loaded guest i below next left; stands = (refl, done ++ j ∷ [], further_on); remains = sym is ∙ same }) tt load
         by (inr (inl (frame, rights, leaf, same))) =
             let held = held_now address Read frame rights leaf in
-            both_on (AtEntry loaded guest i below frame) InTables (InGuestTable frame) after (refl, within (address / page_size) frame rights held) (address / page_size, rights, held, leaf.1) (sym is ∙ same) load
+            both_on InTables (InGuestTable frame) after (record { position = AtEntry loaded guest i below frame; stands = (refl, within (address / page_size) frame rights held); remains = sym is ∙ same })
+            (address / page_size, rights, held, leaf.1) load
         by (inr (inr (fault, same))) = absurd (subst IsLoad (sym is ∙ same) load)
 
     toward_entry : (loaded : List ℕ) (guest i : ℕ) (below : List ℕ) (table : ℕ) (done left : List ℕ) (after : Walk TableAnswer) → IsOnItsWay size memory root (entry_address (slot guest i)) table done left
@@ -316,34 +316,37 @@ module _ (laws : LoadLaws) (walk_laws : WalkLaws) (values : Values) (memory : Li
     toward_entry loaded guest i below table done (j ∷ left) (ReadsContext address rest) way is = entry_on loaded guest i below table done j left (ReadsContext address rest) way is tt
 
     -- FROM THE ROOT of the second stage: to an entry of a guest's table
-    downward : (loaded : List ℕ) (next : ℕ) (indices : List ℕ) (from : Standing) (after : Walk TableAnswer) → MayGoOnThere values id from InTables → guest_down w loaded next indices ≡ after → IsLoad after
-        → HasLoaded values (Both size) memory id root asked from after
-    downward loaded next [] from after may is load = absurd (subst IsLoad (sym is) load)
-    downward loaded next (k ∷ later) from after may is load = by (nat_lt (entry_address (slot next k)) (2 ^ (9 * levels_of size + 14))) refl is
+    pub downward : (loaded : List ℕ) (next : ℕ) (indices : List ℕ) (after : Walk TableAnswer) → guest_down w loaded next indices ≡ after → IsLoad after → StandsInBoth size memory root asked after InTables
+    downward loaded next [] after is load = absurd (subst IsLoad (sym is) load)
+    downward loaded next (k ∷ later) after is load = by (nat_lt (entry_address (slot next k)) (2 ^ (9 * levels_of size + 14))) refl is
       where
         path : List ℕ
         path = second_path (levels_of size) (entry_address (slot next k))
 
         by : (b : Bool) → nat_lt (entry_address (slot next k)) (2 ^ (9 * levels_of size + 14)) ≡ b
-            → (if b then rest_of w (ToEntry loaded next k later root path) else unread w next k (guest_page_fault_of asked.kind)) ≡ after → HasLoaded values (Both size) memory id root asked from after
-        by true small same =
-            both_on (ToEntry loaded next k later root path) from InTables after
-            (refl, [], (leb-true (suc (entry_address (slot next k))) (2 ^ (9 * levels_of size + 14)) small, refl, refl)) may (sym same) load
+            → (if b then rest_of w (ToEntry loaded next k later root path) else unread w next k (guest_page_fault_of asked.kind)) ≡ after → StandsInBoth size memory root asked after InTables
+        by true small same = record {
+          position = ToEntry loaded next k later root path;
+          stands = (refl, [], (leb-true (suc (entry_address (slot next k))) (2 ^ (9 * levels_of size + 14)) small, refl, refl));
+          remains = sym same;
+        }
         by false small same = absurd (subst IsLoad (sym same) load)
 
     -- or to the page
-    pageward : (loaded : List ℕ) (page : ℕ) (given : Rights) (level : ℕ) (from : Standing) (after : Walk TableAnswer) → MayGoOnThere values id from InTables → allows given asked.kind ≡ true
-        → page_walk w loaded page given level ≡ after → IsLoad after → HasLoaded values (Both size) memory id root asked from after
-    pageward loaded page given level from after may allowed is load = by (nat_lt (guest_address page asked.address) (2 ^ (9 * levels_of size + 14))) refl is
+    pageward : (loaded : List ℕ) (page : ℕ) (given : Rights) (level : ℕ) (after : Walk TableAnswer) → allows given asked.kind ≡ true → page_walk w loaded page given level ≡ after → IsLoad after
+        → StandsInBoth size memory root asked after InTables
+    pageward loaded page given level after allowed is load = by (nat_lt (guest_address page asked.address) (2 ^ (9 * levels_of size + 14))) refl is
       where
         path : List ℕ
         path = second_path (levels_of size) (guest_address page asked.address)
 
         by : (b : Bool) → nat_lt (guest_address page asked.address) (2 ^ (9 * levels_of size + 14)) ≡ b
-            → (if b then rest_of w (ToPage loaded page given level root path) else unreached w page (guest_page_fault_of asked.kind)) ≡ after → HasLoaded values (Both size) memory id root asked from after
-        by true small same =
-            both_on (ToPage loaded page given level root path) from InTables after
-            (refl, allowed, [], (leb-true (suc (guest_address page asked.address)) (2 ^ (9 * levels_of size + 14)) small, refl, refl)) may (sym same) load
+            → (if b then rest_of w (ToPage loaded page given level root path) else unreached w page (guest_page_fault_of asked.kind)) ≡ after → StandsInBoth size memory root asked after InTables
+        by true small same = record {
+          position = ToPage loaded page given level root path;
+          stands = (refl, allowed, [], (leb-true (suc (guest_address page asked.address)) (2 ^ (9 * levels_of size + 14)) small, refl, refl));
+          remains = sym same;
+        }
         by false small same = absurd (subst IsLoad (sym same) load)
 
     -- AT AN ENTRY of a guest's table
@@ -357,13 +360,13 @@ module _ (laws : LoadLaws) (walk_laws : WalkLaws) (values : Values) (memory : Li
         leaf : (base : ℕ) (rights : Rights) (b : Bool) → is_lawful asked.kind base rights below ≡ b
             → (if b then page_walk w now (base + page_in below) rights (length below) else faulted w) ≡ after → HasLoaded values (Both size) memory id root asked (InGuestTable frame) after
         leaf base rights true lawful same =
-            pageward now (base + page_in below) rights (length below) (InGuestTable frame) after tt (lawful_leaf asked.kind base rights below lawful).allowed same load
+            both_on (InGuestTable frame) InTables after (pageward now (base + page_in below) rights (length below) after (lawful_leaf asked.kind base rights below lawful).allowed same load) tt load
         leaf base rights false lawful same = absurd (subst IsLoad (sym same) load)
 
         by : (e : Entry) → at_guest_entry w now below (λ next. guest_down w now next below) e ≡ after → HasLoaded values (Both size) memory id root asked (InGuestTable frame) after
         by Outside same = absurd (subst IsLoad (sym same) load)
         by Invalid same = absurd (subst IsLoad (sym same) load)
-        by (Pointer next) same = downward now next below (InGuestTable frame) after tt same load
+        by (Pointer next) same = both_on (InGuestTable frame) InTables after (downward now next below after same load) tt load
         by (Leaf base rights) same = leaf base rights (is_lawful asked.kind base rights below) refl same
 
     guest_told : (frame : ℕ) (answer : TableAnswer) → EndsWithPageFault asked.kind answer → HasLoaded values (Both size) memory id root asked (InGuestTable frame) (Ends answer)
@@ -390,7 +393,7 @@ module _ (laws : LoadLaws) (walk_laws : WalkLaws) (values : Values) (memory : Li
             ⊎ (((frame : ℕ) × (rights : Rights) × HasLeafNow size memory root (guest_address page asked.address) asked.kind frame rights
             × (After ≡ Ends (Ok (record { frame = frame; rights = rights_of_both given rights; level = level; guest_frames = padded 4 loaded }))))
             ⊎ ((fault : WalkFault) × (After ≡ Ends (Err fault)))) → HasLoaded values (Both size) memory id root asked InTables after
-        by (inl (next, further_on, same)) = both_on (ToPage loaded page given level next left) InTables InTables after (refl, allowed, done ++ j ∷ [], further_on) tt (sym is ∙ same) load
+        by (inl (next, further_on, same)) = both_on InTables InTables after (record { position = ToPage loaded page given level next left; stands = (refl, allowed, done ++ j ∷ [], further_on); remains = sym is ∙ same }) tt load
         by (inr (inl (frame, rights, leaf, same))) = absurd (subst IsLoad (sym is ∙ same) load)
         by (inr (inr (fault, same))) = absurd (subst IsLoad (sym is ∙ same) load)
 
@@ -418,7 +421,7 @@ module _ (laws : LoadLaws) (walk_laws : WalkLaws) (values : Values) (memory : Li
     toward_page loaded page given level table done (j ∷ left) (ReadsEntry address rest) allowed way is = page_on loaded page given level table done j left (ReadsEntry address rest) allowed way is tt
     toward_page loaded page given level table done (j ∷ left) (ReadsContext address rest) allowed way is = page_on loaded page given level table done j left (ReadsContext address rest) allowed way is tt
 
-    both_loaded : (rest : Walk TableAnswer) (from : Standing) → StandsInBoth size memory root asked rest from → HasLoaded values (Both size) memory id root asked from (after_load memory rest)
+    pub both_loaded : (rest : Walk TableAnswer) (from : Standing) → StandsInBoth size memory root asked rest from → HasLoaded values (Both size) memory id root asked from (after_load memory rest)
     both_loaded rest from stands = by stands.position stands.stands (ap (after_load memory) (sym stands.remains))
       where
         by : (position : Position) → StandsAt size memory root asked position from → after_load memory (rest_of w position) ≡ after_load memory rest → HasLoaded values (Both size) memory id root asked from (after_load memory rest)
@@ -428,3 +431,16 @@ module _ (laws : LoadLaws) (walk_laws : WalkLaws) (values : Values) (memory : Li
             subst (λ standing. HasLoaded values (Both size) memory id root asked standing (after_load memory rest)) (sym is) (at_guest loaded guest i below frame (after_load memory rest) here same)
         by (ToPage loaded page given level table left) (is, allowed, done, way) same =
             subst (λ standing. HasLoaded values (Both size) memory id root asked standing (after_load memory rest)) (sym is) (toward_page loaded page given level table done left (after_load memory rest) allowed way same)
+
+-- IN EACH MODE
+pub tables_loaded : LoadLaws → WalkLaws → (values : Values) (memory : List (List ℕ)) (owners : List (Option Owner)) (id root : ℕ) (mode : Mode) (asked : Asked) → asked.address / page_size < 2 ^ 52
+    → ((page frame : ℕ) (rights : Rights) → held_in values.ledger id page ≡ Some (frame, rights) → frame < length memory) → AreTablesOf memory owners values.ledger id mode root
+    → (rest : Walk TableAnswer) (from : Standing) → StandsInMode mode memory root asked rest from → HasLoaded values mode memory id root asked from (after_load memory rest)
+tables_loaded laws walk_laws values memory owners id root (First size) asked low within tables rest from stands =
+    subst (λ standing. HasLoaded values (First size) memory id root asked standing (after_load memory rest)) (sym stands.in_tables)
+    (first_loaded laws walk_laws values memory owners id root size asked low within tables rest from stands)
+tables_loaded laws walk_laws values memory owners id root (Second size) asked low within tables rest from stands =
+    subst (λ standing. HasLoaded values (Second size) memory id root asked standing (after_load memory rest)) (sym stands.in_tables)
+    (second_loaded laws walk_laws values memory owners id root size asked low within tables rest from stands)
+tables_loaded laws walk_laws values memory owners id root (Both size) asked low within tables rest from stands =
+    both_loaded laws walk_laws values memory owners id root size asked low within tables rest from stands

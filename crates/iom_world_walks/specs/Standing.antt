@@ -110,7 +110,7 @@ StandsAs driver memory under_way own (Translates request context translated rest
     (request ≡ own) × (standing : walks.Standing) × Contains under_way (walks.walk_at own.device standing)
     × StandsInTables driver memory own context translated rest standing
 
--- SO DOES EACH REQUEST that is under way
+-- SO DOES EACH REQUEST that is under way, for an address of 64 bits
 abbrev pub RowsStand : DriverState → List (List ℕ) → List walks.Walk → List WalkRow → Type 0
 RowsStand driver memory under_way rows = (row : WalkRow) (own : UnderWay) → Contains rows row → row.under_way ≡ Some own
-    → StandsAs driver memory under_way own.request (still_serving (length memory) own.serving)
+    → (own.request.asked.address < 2 ^ 64) × StandsAs driver memory under_way own.request (still_serving (length memory) own.serving)

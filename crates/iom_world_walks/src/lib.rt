@@ -8,4 +8,4 @@
 
 mod laws;
 
-pub use laws::{events_law, standing_law};
+pub use laws::{begins_law, events_law, fetches_law, loads_law, others_law, standing_law};
