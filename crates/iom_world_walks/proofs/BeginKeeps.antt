@@ -167,11 +167,17 @@ module _ {walks : List Walk} (laws : RowLaws) (old new : Parts) (events id : ℕ
         (sym (ap without_directory names.mode ∙ none_without d.levels own.sizes.in_range)) (by_cached (contexts_of old.iommu id) refl)
 
     -- an answer that is given at once
-    answer_at_once : (answer : Answer) → HasCome (Serves answer) → (translation : Translation) → translation_by old.memory access.address access.kind answer ≡ Ok translation → Given (Ok translation)
-    answer_at_once AsItIs never translation is = absurd never
-    answer_at_once (Cached found_one) answers translation is = let one : found_one ≡ translation = cc in subst (λ t. Given (Ok t)) one answers
-    answer_at_once (Reaches walked) never translation is = absurd never
-    answer_at_once (Faults fault) answers translation is = cc
+    answer_at_once : (answer : Answer) → HasCome (Serves answer) → (translated : Result Translation WalkFault) → translation_by old.memory access.address access.kind answer ≡ translated → Given translated
+    answer_at_once AsItIs never translated is = absurd never
+    answer_at_once (Cached found_one) answers translated is = subst Given is answers
+    answer_at_once (Reaches walked) never translated is = absurd never
+    answer_at_once (Faults fault) answers translated is = subst Given is answers
+
+  -- WHAT A REQUEST IS ANSWERED AT ONCE may be answered to a whole one
+  pub begun_answer : (reply : Reply) → (answers : AnswersAtOnce old.memory old.iommu rows id access reply new.memory new.iommu new_rows) → (translated : Result Translation WalkFault)
+      → translation_by old.memory access.address access.kind answers.answer ≡ translated → Given translated
+  begun_answer reply answers translated is =
+      answer_at_once answers.looks.translations answers.answer (subst HasCome (sym (answers.begun.0 (length old.memory))) (begun answers.looks.translations)) translated is
 
   -- the rows, where one is another
   rows_with : (left : List Walk) (later : WalkRow) → AreAmong walks left → new_rows ≡ with_row rows later → ((next : UnderWay) → later.under_way ≡ Some next
@@ -219,16 +225,13 @@ module _ {walks : List Walk} (laws : RowLaws) (old new : Parts) (events id : ℕ
       keeps : KeepsAttached (attachment_by_id d.devices id) id (contexts_of old.iommu) (contexts_of new.iommu)
       keeps = keeps_looked d id (looks_for_context (registers_of old.iommu).ddtp.mode id) old.iommu.contexts new.iommu.contexts answers.looks.contexts
 
-      come : HasCome (Serves answers.answer)
-      come = subst HasCome (sym (answers.begun.0 (length old.memory))) (begun answers.looks.translations)
-
       rows_now : RowsStand d old.memory walks new_rows
       rows_now = subst (RowsStand d old.memory walks) (sym answers.begun.1) stand
 
       by : (reply : Reply) → Replies old.memory old.iommu id access (translation_by old.memory access.address access.kind answers.answer) reply new.memory new.iommu → SteppedInvariant new new_rows events
       by (Accepted number) accepts =
           let now = accepted old new events id invariants own driver devices fabric keeps stays_ready below access (translation_by old.memory access.address access.kind answers.answer) number accepts
-          (answer_at_once answers.looks.translations answers.answer come accepts.translation accepts.is) in
+          (begun_answer reply answers (Ok accepts.translation) accepts.is) in
           (walks, now, rows_still laws.driven old new events walks invariants.started (leaves_all d new.driver old.memory new.memory driver accepts.memory_stays) now new_rows rows_now)
       by (Fault cause) records =
           let now = recorded old new events id invariants own driver devices fabric keeps reported access (translation_by old.memory access.address access.kind answers.answer) cause records answers.looks.translations in

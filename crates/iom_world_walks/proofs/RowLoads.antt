@@ -25,7 +25,7 @@ use Rattle.iom_iommu.specs.declared.reply.Reply.{Reply}
 use Rattle.iom_iommu.specs.declared.reply.Reply.TheVariants.{Accepted, Busy, BadSpan, Fault}
 use Rattle.iom_standing_walks.specs.Driven.{DrivenWalksStand}
 use Rattle.iom_standing_walks.specs.Pages.{DirectoryEndsAsNow, DirectoryGoesOn}
-use Rattle.iom_stepped_requests.specs.Serving.{Remaining, Serves, Locates, Translates, answer_of, in_tables, kept, kept_in_directory, kept_in_tables, load, translation_of}
+use Rattle.iom_stepped_requests.specs.Serving.{Remaining, Serves, Locates, Translates, answer_of, in_tables, kept, kept_in_directory, kept_in_tables, load}
 use Rattle.iom_stepped_walk.specs.Steps.{TableAnswer}
 use Rattle.iom_walk_loads.specs.Loads.{Walk as LoadWalk, Ends, ReadsEntry, ReadsContext, after_load}
 use Rattle.iom_tlb.specs.Content.{Translations, TranslationsUnchanged}
@@ -116,7 +116,7 @@ keeps_offered d id (kept_as.Context device context) old new own keeps =
     inr (mine.1, mine.2, subst (λ c. KeepsOne (cached_contexts old) id c (cached_contexts new)) mine.3 (subst (λ n. KeepsOne (cached_contexts old) n context (cached_contexts new)) mine.0 keeps.kept))
 
 -- what remains of one that goes on isn't an answer
-goes_on_still : (frames : ℕ) (walk : RequestWalk) (answer : Answer) → stands frames walk ≡ Serves answer → ⊥
+pub goes_on_still : (frames : ℕ) (walk : RequestWalk) (answer : Answer) → stands frames walk ≡ Serves answer → ⊥
 goes_on_still frames (walking.InDirectory request anew walk) answer same = cc
 goes_on_still frames (walking.InTables request context translated walk) answer same = cc
 
@@ -241,23 +241,29 @@ module _ {walks : List Walk} (laws : RowLaws) (old new : Parts) (events id : ℕ
     left_idle after = others_stand walks (idle_row row) (λ x x_there. x_there) after (λ next is. cc)
 
     -- the answer gives what the service of whole requests may give
-    answer_given : (answer : Answer) → Served (Serves answer) → (translation : Translation) → translation_by old.memory request.asked.address request.asked.kind answer ≡ Ok translation
-        → IsAnswered ioatc.SURE old.driver request.device request.asked.address request.asked.kind (translations_of old.iommu) (Ok translation) (translations_of new.iommu)
-    answer_given AsItIs never translation is = absurd never
-    answer_given (Cached found_one) answers translation is =
-        let one : found_one ≡ translation = cc in
-        subst (λ t. IsAnswered ioatc.SURE old.driver request.device request.asked.address request.asked.kind (translations_of old.iommu) (Ok t) (translations_of new.iommu)) one answers
-    answer_given (Reaches walked) answers translation is =
-        let one : translation_of walked ≡ translation = cc in
-        subst (λ t. IsAnswered ioatc.SURE old.driver request.device request.asked.address request.asked.kind (translations_of old.iommu) (Ok t) (translations_of new.iommu)) one answers
-    answer_given (Faults fault) answers translation is = cc
+    given : (answer : Answer) → Served (Serves answer) → (translated : Result Translation WalkFault) → translation_by old.memory request.asked.address request.asked.kind answer ≡ translated
+        → IsAnswered ioatc.SURE old.driver request.device request.asked.address request.asked.kind (translations_of old.iommu) translated (translations_of new.iommu)
+    given AsItIs never translated is = absurd never
+    given (Cached found_one) answers translated is =
+        subst (λ t. IsAnswered ioatc.SURE old.driver request.device request.asked.address request.asked.kind (translations_of old.iommu) t (translations_of new.iommu)) is answers
+    given (Reaches walked) answers translated is =
+        subst (λ t. IsAnswered ioatc.SURE old.driver request.device request.asked.address request.asked.kind (translations_of old.iommu) t (translations_of new.iommu)) is answers
+    given (Faults fault) answers translated is =
+        subst (λ t. IsAnswered ioatc.SURE old.driver request.device request.asked.address request.asked.kind (translations_of old.iommu) t (translations_of new.iommu)) is answers
 
-    fault_given : (answer : Answer) → Served (Serves answer) → (fault : WalkFault) → translation_by old.memory request.asked.address request.asked.kind answer ≡ Err fault
-        → TranslationsUnchanged (translations_of old.iommu) (translations_of new.iommu)
-    fault_given AsItIs never fault is = absurd never
-    fault_given (Cached found_one) answers fault is = cc
-    fault_given (Reaches walked) answers fault is = cc
-    fault_given (Faults own_fault) answers fault is = answers.1
+  -- WHAT A REQUEST IS ANSWERED THAT ENDS may be answered to a whole one then
+  pub ended_answer : (reply : Reply) → (call : EndsAtLoad old.memory old.iommu rows id reply new.memory new.iommu new_rows) → (translated : Result Translation WalkFault)
+      → translation_by old.memory call.ended.request.asked.address call.ended.request.asked.kind call.ended.answer ≡ translated
+      → IsAnswered ioatc.SURE old.driver id call.ended.request.asked.address call.ended.request.asked.kind (translations_of old.iommu) translated (translations_of new.iommu)
+  ended_answer reply call translated is =
+      let loads = call.loads in
+      let same : call.ended.request ≡ loads.under_way.request = loads.request in
+      let answered = subst (Served loads.row loads.under_way loads.was_there loads.walks call.offers) (sym loads.answered) (served loads.row loads.under_way loads.was_there loads.walks call.offers) in
+      let told = subst (λ (r : Request). translation_by old.memory r.asked.address r.asked.kind call.ended.answer ≡ translated) same is in
+      let mine_now = given loads.row loads.under_way loads.was_there loads.walks call.offers call.ended.answer answered translated told in
+      subst (λ (r : Request). IsAnswered ioatc.SURE old.driver id r.asked.address r.asked.kind (translations_of old.iommu) translated (translations_of new.iommu)) (sym same)
+      (subst (λ n. IsAnswered ioatc.SURE old.driver n loads.under_way.request.asked.address loads.under_way.request.asked.kind (translations_of old.iommu) translated (translations_of new.iommu))
+      (is_mine loads.row loads.under_way loads.was_there loads.walks call.offers) mine_now)
 
   -- THE LOAD, by what is told of it
   goes_on : new.memory ≡ old.memory → LoadsMore old.memory old.iommu rows id new.iommu new_rows → SteppedInvariant new new_rows events
@@ -275,9 +281,6 @@ module _ {walks : List Walk} (laws : RowLaws) (old new : Parts) (events id : ℕ
       under_way : UnderWay
       under_way = call.loads.under_way
 
-      answered : Served row under_way call.loads.was_there call.loads.walks call.offers (Serves call.ended.answer)
-      answered = subst (Served row under_way call.loads.was_there call.loads.walks call.offers) (sym call.loads.answered) (served row under_way call.loads.was_there call.loads.walks call.offers)
-
       access : Request → Access
       access request = access_of request.asked.address call.ended.len request.asked.kind row.bytes
 
@@ -292,17 +295,11 @@ module _ {walks : List Walk} (laws : RowLaws) (old new : Parts) (events id : ℕ
 
       by : (reply : Reply) → Replies old.memory old.iommu id (access call.ended.request) (told call.ended.request) reply new.memory new.iommu → SteppedInvariant new new_rows events
       by (Accepted number) accepts =
-          let same : call.ended.request ≡ under_way.request = call.loads.request in
-          let is = subst (λ r. told r ≡ Ok accepts.translation) same accepts.is in
-          let given = answer_given row under_way call.loads.was_there call.loads.walks call.offers call.ended.answer answered accepts.translation is in
-          let mine_now = subst (λ n. IsAnswered ioatc.SURE old.driver n under_way.request.asked.address under_way.request.asked.kind (translations_of old.iommu) (Ok accepts.translation) (translations_of new.iommu))
-          (is_mine row under_way call.loads.was_there call.loads.walks call.offers) given in
           let now = accepted old new events id invariants own driver devices fabric kept_so stays_ready below (access call.ended.request) (told call.ended.request) number accepts
-          (subst (λ (r : Request). IsAnswered ioatc.SURE old.driver id r.asked.address r.asked.kind (translations_of old.iommu) (Ok accepts.translation) (translations_of new.iommu)) (sym same) mine_now) in
+          (ended_answer reply call (Ok accepts.translation) accepts.is) in
           (walks, now, rows_still laws.driven old new events walks invariants.started (leaves_all old.driver new.driver old.memory new.memory driver accepts.memory_stays) now new_rows idle)
       by (Fault cause) records =
-          let same : call.ended.request ≡ under_way.request = call.loads.request in
-          let unchanged = fault_given row under_way call.loads.was_there call.loads.walks call.offers call.ended.answer answered records.fault (subst (λ r. told r ≡ Err records.fault) same records.is) in
+          let unchanged = (ended_answer reply call (Err records.fault) records.is).1 in
           let now = recorded old new events id invariants own driver devices fabric kept_so reported (access call.ended.request) (told call.ended.request) cause records unchanged in
           let else_same = (reported old.memory new.memory (registers_of old.iommu) (registers_of new.iommu) _ records.answer invariants.ready invariants.started records.recorded).1 in (
             walks,

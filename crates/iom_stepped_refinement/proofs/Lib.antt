@@ -1,0 +1,5 @@
+pub mod WalkShows
+pub mod AnswerSteps
+pub mod LoadSteps
+pub mod BeginSteps
+pub mod AnewSteps

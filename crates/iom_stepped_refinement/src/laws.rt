@@ -1,0 +1,51 @@
+//! Laws of a world in which requests are under way, each the contract of a function that takes laws of those below.
+ghost use Rattle.iom_stepped_refinement.specs.Laws.{BeginsAreSteps, FetchesAreSteps, LoadsAreSteps, WaitsAreSteps};
+
+use iom_driver::laws::others_leave_standing;
+use iom_standing_walks::{directory_law, driven_law, fault_law, leaf_law, standing_law};
+use iom_stepped_requests::laws::bound_law;
+use iom_world_effects::laws_below;
+
+/// A request that begins is a step of the ledger machine with walks, as it is told: its walk is under way, or it is
+/// answered at once, or refused, or finds its device occupied.
+pub fn begins_law()
+    ensures { BeginsAreSteps }
+{
+    bound_law();
+    laws_below();
+    standing_law();
+    leaf_law();
+    fault_law();
+    directory_law();
+    driven_law();
+    others_leave_standing();
+}
+
+/// So is a load: the walk goes on, which made at most 26 loads since it began or began anew; or the load ends it, and
+/// answers its request as the ledger is then.
+pub fn loads_law()
+    ensures { LoadsAreSteps }
+{
+    bound_law();
+    laws_below();
+    standing_law();
+    leaf_law();
+    fault_law();
+    directory_law();
+    driven_law();
+    others_leave_standing();
+}
+
+/// A step of a block device whose access is under way tells that it waits, and nothing changes.
+pub fn waits_law()
+    ensures { WaitsAreSteps }
+{}
+
+/// And a fetch: where it does an IOTINVAL or an IODIR each walk has begun anew then, with no load made.
+pub fn fetches_law()
+    ensures { FetchesAreSteps }
+{
+    bound_law();
+    laws_below();
+    others_leave_standing();
+}
