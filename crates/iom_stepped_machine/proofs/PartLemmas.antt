@@ -1,17 +1,20 @@
 -- What the ledger machine sees of an event it may do itself.
-use Rattle.std.proofs.Common.{◌≡◌, ℕ, inl, inr, List, [], ◌∷◌, Option, None, Some, refl, sym, ap, subst}
+use Rattle.std.proofs.Common.{◌≡◌, ℕ, Bool, List, [], ◌∷◌, Option, None, Some, refl, sym, ap, subst}
 use Rattle.std.specs.Option.{option_map}
+use Rattle.iom_machine.specs.declared.outcome.BlockStep.TheVariants.{Waiting}
+use Rattle.iom_base.specs.DeviceKinds.{forges, sends_through_cache, sends_untranslated}
+use Rattle.iom_base.specs.declared.device_kind.DeviceKind.{DeviceKind}
 use Rattle.iom_base.specs.declared.access.Access.{Access}
 use Rattle.iom_base.specs.Accesses.{read_of, write_of}
 use Rattle.iom_machine.specs.declared.event.Event.{Event}
 use Rattle.iom_machine.specs.declared.event.Event.TheVariants as events
 use Rattle.iom_machine.specs.declared.outcome.Outcome.{Outcome}
-use Rattle.iom_machine.specs.declared.outcome.Outcome.TheVariants.{Accepted, BadSpan, Busy, Fault, Refused}
+use Rattle.iom_machine.specs.declared.outcome.Outcome.TheVariants.{Accepted, BadSpan, Busy, Fault, Refused, Stepped}
 use Rattle.iom_machine.specs.declared.state.State.{State}
 use Rattle.iom_machine.specs.Machine.{Run, Step}
 use Rattle.iom_machine.proofs.InFlightLemmas.{some_case}
 use Rattle.iom_stepped_machine.specs.Laws.{Answered, GoOn, IsSeenAs, SteppedRunsAreRuns, ledger_part, part_besides, part_whole, unless_busy}
-use Rattle.iom_stepped_machine.specs.Machine.{Answer, AnswersBesides, AnswersLoad, AnswersWhole, BeginsAt, Load, Loaded, NoWalk, Occupied, PassesBesides, SteppedEvent, SteppedOutcome, SteppedRun, SteppedState, SteppedStep, Walking, Whole, asker_of, walk_at}
+use Rattle.iom_stepped_machine.specs.Machine.{Answer, AnswersBesides, AnswersLoad, AnswersWhole, BeginsAt, Load, Loaded, NoWalk, Occupied, PassesBesides, SteppedEvent, SteppedOutcome, SteppedState, SteppedStep, Walking, Whole, asker_of, walk_at, RefusesBesides, WaitsBesides}
 use Rattle.iom_stepped_machine.specs.Walks.{Walk, event_of}
 
 -- what is seen, if anything is, is a step, and else the state stays
@@ -19,20 +22,35 @@ abbrev pub PartSteps : Option Answered → State → State → Type 0
 PartSteps None old new = new ≡ old
 PartSteps (Some part) old new = Step old part.0 part.1 new
 
-passes : (old new : State) (id : ℕ) (access : Access) (event : Event) (outcome : Outcome) → PassesBesides old id access event outcome new
+refuses : (can : DeviceKind → Bool) (old new : State) (id : ℕ) (access : Access) (event : Event) (outcome : Outcome) → RefusesBesides can old id access event outcome new
     → PartSteps (unless_busy event outcome) old new
-passes old new id access event BadSpan step = step
-passes old new id access event Busy step = step.2
-passes old new id access event _ step = step.1
+refuses can old new id access event (Refused why) step = step
+refuses can old new id access event BadSpan step = step
+refuses can old new id access event Busy step = step.3
+refuses can old new id access event _ step = absurd step
+
+passes : (can : DeviceKind → Bool) (old new : State) (id : ℕ) (access : Access) (event : Event) (outcome : Outcome) → PassesBesides can old id access event outcome new
+    → PartSteps (unless_busy event outcome) old new
+passes can old new id access event (Refused why) step = step
+passes can old new id access event BadSpan step = step
+passes can old new id access event Busy step = step.3
+passes can old new id access event _ step = step.1
+
+waits : (old new : State) (id : ℕ) (outcome : Outcome) → WaitsBesides old id outcome new → Step old (events.Step id) outcome new
+waits old new id (Refused why) step = step
+waits old new id (Stepped Waiting) step = step
+waits old new id _ step = absurd step
 
 besides : (old new : State) (event : Event) (outcome : Outcome) → AnswersBesides old event outcome new → PartSteps (part_besides event outcome) old new
-besides old new (events.Read id address len) outcome step = step.1
-besides old new (events.Write id address bytes) outcome step = step.1
-besides old new (events.Step id) outcome step = step.1
-besides old new (events.ReadTranslated id address len) outcome step = passes old new id (read_of address len) (events.ReadTranslated id address len) outcome step
-besides old new (events.WriteTranslated id address bytes) outcome step = passes old new id (write_of address bytes) (events.WriteTranslated id address bytes) outcome step
-besides old new (events.ReadThroughCache id address len) outcome step = passes old new id (read_of address len) (events.ReadThroughCache id address len) outcome step
-besides old new (events.WriteThroughCache id address bytes) outcome step = passes old new id (write_of address bytes) (events.WriteThroughCache id address bytes) outcome step
+besides old new (events.Read id address len) outcome step = refuses sends_untranslated old new id (read_of address len) (events.Read id address len) outcome step
+besides old new (events.Write id address bytes) outcome step = refuses sends_untranslated old new id (write_of address bytes) (events.Write id address bytes) outcome step
+besides old new (events.Step id) outcome step = waits old new id outcome step
+besides old new (events.ReadTranslated id address len) outcome step = passes forges old new id (read_of address len) (events.ReadTranslated id address len) outcome step
+besides old new (events.WriteTranslated id address bytes) outcome step = passes forges old new id (write_of address bytes) (events.WriteTranslated id address bytes) outcome step
+besides old new (events.ReadThroughCache id address len) outcome step =
+    passes sends_through_cache old new id (read_of address len) (events.ReadThroughCache id address len) outcome step
+besides old new (events.WriteThroughCache id address bytes) outcome step =
+    passes sends_through_cache old new id (write_of address bytes) (events.WriteThroughCache id address bytes) outcome step
 besides old new _ outcome step = step
 
 whole : (found : Option Walk) (old new : State) (event : Event) (outcome : Outcome) → AnswersWhole found old event outcome new → PartSteps (part_whole found event outcome) old new

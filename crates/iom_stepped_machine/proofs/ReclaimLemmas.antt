@@ -1,5 +1,5 @@
 -- The reclaim theorem where walks take several events: of what the ledger machine sees it holds already.
-use Rattle.std.proofs.Common.{◌≡◌, ℕ, ◌+◌, ◌⊎◌, inl, inr, true, List, [], ◌∷◌, Option, None, Some, IsSomeAnd, is_some, refl, sym, ap, ◌∙◌, subst}
+use Rattle.std.proofs.Common.{◌≡◌, ℕ, ◌⊎◌, inl, inr, true, List, [], ◌∷◌, Option, None, Some, IsSomeAnd, is_some, refl, sym, ap, ◌∙◌, subst}
 use Rattle.std.specs.Option.{option_map}
 use Rattle.iom_base.specs.declared.device_kind.DeviceKind.TheVariants.{Raw}
 use Rattle.iom_base.specs.declared.access.Access.{Access}
@@ -8,19 +8,19 @@ use Rattle.iom_base.specs.Accesses.{IsWithinPage, read_of, write_of}
 use Rattle.iom_machine.specs.declared.event.Event.{Event}
 use Rattle.iom_machine.specs.declared.event.Event.TheVariants as events
 use Rattle.iom_machine.specs.declared.outcome.Outcome.{Outcome}
-use Rattle.iom_machine.specs.declared.outcome.Outcome.TheVariants.{Accepted, BadSpan, Busy, Done, Fault, Refused}
+use Rattle.iom_machine.specs.declared.outcome.Outcome.TheVariants.{Accepted, BadSpan, Busy, Fault, Refused}
 use Rattle.iom_machine.specs.declared.state.Device.{Device}
 use Rattle.iom_machine.specs.declared.state.State.{State}
-use Rattle.iom_machine.specs.Devices.{EachInFlightMay, IsPlugged, device_of}
-use Rattle.iom_machine.specs.Headline.{AsksFor, GrantsFrame, GrantsFrameTo, HeldPageIsAccepted, IsOneStage, TouchesFrame, TouchesFrameBy}
+use Rattle.iom_machine.specs.Devices.{IsPlugged, device_of}
+use Rattle.iom_machine.specs.Headline.{AsksFor, GrantsFrame, GrantsFrameTo}
 use Rattle.iom_machine.specs.Laws.{IsReached, NoneGrants}
-use Rattle.iom_machine.specs.Machine.{Requests, Run, Step}
+use Rattle.iom_machine.specs.Machine.{Requests, Step}
 use Rattle.iom_machine.specs.Requests.{IsBusy, MayAnswer, state_after}
 use Rattle.iom_machine.proofs.HeadlineLemmas.{in_flight_may}
 use Rattle.iom_machine.proofs.InFlightLemmas.{able_act, some_case}
 use Rattle.iom_machine.proofs.ReclaimLemmas.{free_frames_are_not_touched, held_pages_are_accepted, made_accesses_touch_their_own, only_grantees_touch}
-use Rattle.iom_stepped_machine.specs.Laws.{Answered, GoOn, IsReachedByLoads, IsSeenAs, ledger_part, part_besides, part_whole, unless_busy, without_walks}
-use Rattle.iom_stepped_machine.specs.Machine.{Answer, AnswersBesides, AnswersLoad, AnswersWhole, BeginsAt, BeginsWalk, EndsWalk, IsFullBesides, IsOccupied, Load, Loaded, NoWalk, Occupied, RefusesBesides, SteppedEvent, SteppedOutcome, SteppedRun, SteppedState, SteppedStep, Walking, Whole, asker_of, walk_at}
+use Rattle.iom_stepped_machine.specs.Laws.{Answered, GoOn, IsReachedByLoads, IsSeenAs, ledger_part, part_besides, part_whole, unless_busy}
+use Rattle.iom_stepped_machine.specs.Machine.{Answer, AnswersBesides, AnswersWhole, BeginsAt, EndsWalk, IsFullBesides, IsOccupied, Load, Loaded, NoWalk, Occupied, RefusesBesides, SteppedEvent, SteppedOutcome, SteppedState, SteppedStep, Walking, Whole, asker_of, walk_at, IsAbleAt}
 use Rattle.iom_stepped_machine.specs.Reclaim.{HoldsPage, IsAcceptedOn, IsSo, NoneIsSo, SteppedAccessesInFlightMay, SteppedAccessesTouchTheirOwn, SteppedFramesAreNotTouched, SteppedGranteesTouch, SteppedPagesAreAccepted}
 use Rattle.iom_stepped_machine.specs.Walks.{Asking, Reads, Writes, Begins, Walk, Walks, event_of}
 use Rattle.iom_stepped_machine.proofs.PartLemmas.{runs_are_runs}
@@ -46,9 +46,8 @@ unless_first event Busy first same = cc
 unless_first event _ first same = is_first event _ first same
 
 besides_first : (event : Event) (outcome : Outcome) (first : Answered) → part_besides event outcome ≡ Some first → (first.0 ≡ event) × (first.1 ≡ outcome)
-besides_first (events.Read id address len) outcome first same = cc
-besides_first (events.Write id address bytes) outcome first same = cc
-besides_first (events.Step id) outcome first same = cc
+besides_first (events.Read id address len) outcome first same = unless_first (events.Read id address len) outcome first same
+besides_first (events.Write id address bytes) outcome first same = unless_first (events.Write id address bytes) outcome first same
 besides_first (events.ReadTranslated id address len) outcome first same = unless_first (events.ReadTranslated id address len) outcome first same
 besides_first (events.WriteTranslated id address bytes) outcome first same = unless_first (events.WriteTranslated id address bytes) outcome first same
 besides_first (events.ReadThroughCache id address len) outcome first same = unless_first (events.ReadThroughCache id address len) outcome first same
@@ -140,22 +139,37 @@ grantees_touch free old new since replies event outcome d frame reached is_free 
 record IsAsking (old new : SteppedState) (event : Event) (id : ℕ) (access : Access) : Type 0 where
   pub who : asker_of event ≡ Some id
   pub occupied : IsOccupied old event → is_some (old.walks id) ≡ true
-  pub besides : (reply : Outcome) → AnswersBesides old.ledger event reply new.ledger → RefusesBesides old.ledger id access reply
+  pub besides : (reply : Outcome) → AnswersBesides old.ledger event reply new.ledger → IsAbleAt sends_untranslated old.ledger id → IsWithinPage access → ¬ IsFullBesides old.ledger id → ⊥
   pub begins : BeginsAt old event new → old.walks id ≡ None
+
+-- a device that can ask so is refused for a bad span, or as too busy
+refuses_neither : (old new : State) (id : ℕ) (access : Access) (event : Event) (reply : Outcome)
+    → ((answer : Outcome) → Step old event answer new → (chosen : ℕ) × Requests chosen old id access answer new) → RefusesBesides sends_untranslated old id access event reply new
+    → IsAbleAt sends_untranslated old id → IsWithinPage access → ¬ IsFullBesides old id → ⊥
+refuses_neither old new id access event (Refused why) as_request step able within room =
+    let found = some_case (device_of old id) _ able in
+    let request = as_request (Refused why) step in (able_act sends_untranslated _ old id (Refused why) new found.0 found.1 found.2 request.1).0
+refuses_neither old new id access event BadSpan as_request step able within room =
+    let found = some_case (device_of old id) _ able in
+    let request = as_request BadSpan step in (able_act sends_untranslated _ old id BadSpan new found.0 found.1 found.2 request.1).0 within
+refuses_neither old new id access event Busy as_request step able within room = room step.2
+refuses_neither old new id access event _ as_request step able within room = step
 
 asking_so : (old new : SteppedState) (event : Event) (id : ℕ) (access : Access) → AsksFor event id access → IsAsking old new event id access
 asking_so old new event id access (inl (address, len, is, same)) =
     subst (λ (e : Event). IsAsking old new e id access) (sym is) (subst (λ a. IsAsking old new (events.Read id address len) id a) (sym same) (record {
       who = refl;
       occupied = λ found. found.0;
-      besides = λ reply answers. answers.0;
+      besides = λ reply answers.
+          refuses_neither old.ledger new.ledger id (read_of address len) (events.Read id address len) reply (λ answer step. (step.0.frame, step.1)) answers;
       begins = λ walk. walk.none;
     }))
 asking_so old new event id access (inr (address, bytes, is, same)) =
     subst (λ (e : Event). IsAsking old new e id access) (sym is) (subst (λ a. IsAsking old new (events.Write id address bytes) id a) (sym same) (record {
       who = refl;
       occupied = λ found. found.0;
-      besides = λ reply answers. answers.0;
+      besides = λ reply answers.
+          refuses_neither old.ledger new.ledger id (write_of address bytes) (events.Write id address bytes) reply (λ answer step. (step.0.frame, step.1)) answers;
       begins = λ walk. walk.none;
     }))
 
@@ -188,15 +202,10 @@ accepted_at_once old new event outcome id device access frame reached step asks 
     by Loaded never = absurd never
     by NoWalk never = absurd never
 
-refuses_neither : (old : State) (id : ℕ) (access : Access) (reply : Outcome) → RefusesBesides old id access reply → IsWithinPage access → ¬ IsFullBesides old id → ⊥
-refuses_neither old id access BadSpan refuses within room = refuses within
-refuses_neither old id access Busy refuses within room = room refuses.1
-refuses_neither old id access _ refuses within room = refuses
-
 occupied_beside : (old new : SteppedState) (event : Event) (outcome : SteppedOutcome) (id : ℕ) (access : Access) (walk : Walk)
-    → SteppedStep old (Whole event) outcome new → AsksFor event id access → old.walks id ≡ Some walk → IsWithinPage access → ¬ IsFullBesides old.ledger id
+    → SteppedStep old (Whole event) outcome new → AsksFor event id access → old.walks id ≡ Some walk → IsAbleAt sends_untranslated old.ledger id → IsWithinPage access → ¬ IsFullBesides old.ledger id
     → outcome ≡ Occupied
-occupied_beside old new event outcome id access walk step asks at within room = by outcome step
+occupied_beside old new event outcome id access walk step asks at able within room = by outcome step
   where
     asking : IsAsking old new event id access
     asking = asking_so old new event id access asks
@@ -205,7 +214,7 @@ occupied_beside old new event outcome id access walk step asks at within room = 
     by (Answer reply) answers =
         let besides : AnswersBesides old.ledger event reply new.ledger =
         subst (λ found. AnswersWhole found old.ledger event reply new.ledger) (ap (walk_at old.walks) asking.who ∙ at) answers.0 in
-        absurd (refuses_neither old.ledger id access reply (asking.besides reply besides) within room)
+        absurd (asking.besides reply besides able within room)
     by Walking begins = absurd (some_or_none (old.walks id) walk at (asking.begins begins))
     by Occupied occupied = refl
     by Loaded never = absurd never

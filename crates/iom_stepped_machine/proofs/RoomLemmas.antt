@@ -1,30 +1,31 @@
 -- A walk counts as one of its device's accesses in flight.
-use Rattle.std.proofs.Common.{◌≡◌, ℕ, ◌+◌, ◌<◌, ◌≤◌, ◌==◌, ◌⊎◌, inl, inr, Bool, true, false, cond, List, [], ◌∷◌, ◌++◌, length, map, Option, None, Some, IsSomeAnd, if◌then◌else◌, refl, sym, ap, ◌∙◌, subst, arith}
-use Rattle.std.specs.Option.{option_map, option_map_or}
+use Rattle.std.proofs.Common.{◌≡◌, ℕ, ◌+◌, ◌<◌, ◌≤◌, ◌==◌, ◌⊎◌, inl, inr, Bool, true, false, List, [], ◌∷◌, ◌++◌, length, Option, None, Some, IsSomeAnd, if◌then◌else◌, refl, sym, ap, ◌∙◌, subst, arith}
+use Rattle.std.specs.Option.{option_map}
 use Rattle.std.proofs.lemmas.Bool.{cases_lt, eqb-false, eqb-true}
 use Rattle.std.proofs.lemmas.List.{length-append}
+use Rattle.iom_machine.specs.declared.outcome.BlockStep.TheVariants.{Waiting}
 use Rattle.iom_base.specs.declared.access.Access.{Access}
 use Rattle.iom_base.specs.declared.access.AcceptedAccess.{AcceptedAccess}
 use Rattle.iom_base.specs.Accesses.{read_of, write_of}
 use Rattle.iom_base.specs.declared.device_kind.DeviceKind.{DeviceKind}
-use Rattle.iom_base.specs.DeviceKinds.{sends_through_cache}
+use Rattle.iom_base.specs.DeviceKinds.{sends_through_cache, forges, sends_untranslated}
 use Rattle.iom_machine.specs.declared.event.Event.{Event}
 use Rattle.iom_machine.specs.declared.event.Event.TheVariants as events
 use Rattle.iom_machine.specs.declared.outcome.Fetched.TheVariants.{Did}
 use Rattle.iom_machine.specs.declared.outcome.Outcome.{Outcome}
-use Rattle.iom_machine.specs.declared.outcome.Outcome.TheVariants.{Accepted, BadSpan, Busy, Done, Fault, Fetched, Refused, Ticket}
+use Rattle.iom_machine.specs.declared.outcome.Outcome.TheVariants.{Accepted, BadSpan, Busy, Done, Fault, Fetched, Refused, Ticket, Stepped}
 use Rattle.iom_machine.specs.declared.state.Device.{Device}
 use Rattle.iom_machine.specs.declared.state.State.{State}
 use Rattle.iom_machine.specs.Devices.{device_of}
 use Rattle.iom_machine.specs.Laws.{Asked, AreSent}
 use Rattle.iom_machine.specs.Machine.{RequestsThroughCache, Step}
-use Rattle.iom_machine.proofs.AskedLemmas.{accepted_by, asked_by, asked_of, made_by}
+use Rattle.iom_machine.proofs.AskedLemmas.{accepted_by, asked_by, asked_of}
 use Rattle.iom_machine.proofs.DeviceLemmas.{flows-run, in_flight_of}
 use Rattle.iom_machine.proofs.InFlightLemmas.{act_cases, some_case}
 use Rattle.iom_machine.proofs.LimitLemmas.{limits-step}
 use Rattle.iom_stepped_machine.specs.Laws.{WalksHaveRoom}
-use Rattle.iom_stepped_machine.specs.Machine.{Answer, AnswersBesides, AnswersLoad, AnswersWhole, BeginsAt, BeginsWalk, EndsWalk, IsFullBesides, Load, Loaded, NoWalk, Occupied, PassesBesides, SteppedEvent, SteppedOutcome, SteppedRun, SteppedState, SteppedStep, Walking, Whole, asker_of, gives_up_at_detach, walk_at, walks_after}
-use Rattle.iom_stepped_machine.specs.Walks.{Asking, Reads, Writes, Begins, Walk, Walks, begins_anew, begun_anew, event_of, no_walks, with_walk}
+use Rattle.iom_stepped_machine.specs.Machine.{Answer, AnswersBesides, AnswersLoad, AnswersWhole, BeginsAt, BeginsWalk, EndsWalk, IsFullBesides, Load, Loaded, NoWalk, Occupied, PassesBesides, SteppedEvent, SteppedOutcome, SteppedRun, SteppedState, SteppedStep, Walking, Whole, asker_of, gives_up_at_detach, walk_at, walks_after, RefusesBesides, WaitsBesides}
+use Rattle.iom_stepped_machine.specs.Walks.{Asking, Reads, Writes, Begins, Walk, Walks, begins_anew, begun_anew, event_of, with_walk}
 
 -- how many accesses of the device with the id are in flight
 abbrev in_flight_at : State → ℕ → ℕ
@@ -134,58 +135,88 @@ through old new event outcome id access as_request (free, step) room = elim (act
   | inr (device, at, answer) ↦ room_beside old new event outcome id device at free step
 ]
 
-passed : (old new : State) (event : Event) (outcome : Outcome) (id : ℕ) (access : Access)
+passed : (can : DeviceKind → Bool) (old new : State) (event : Event) (outcome : Outcome) (id : ℕ) (access : Access)
     → ((reply : Outcome) → (¬ IsFullBesides old id) × Step old event reply new → RoomAt old id → RoomAt new id)
-    → PassesBesides old id access event outcome new → RoomAt old id → RoomAt new id
-passed old new event BadSpan id access others step room = room_quiet old new event BadSpan id step refl room
-passed old new event Busy id access others step room = room_same old new id step.2 room
-passed old new event _ id access others step room = others _ step room
+    → PassesBesides can old id access event outcome new → RoomAt old id → RoomAt new id
+passed can old new event (Refused why) id access others step room = room_quiet old new event (Refused why) id step refl room
+passed can old new event BadSpan id access others step room = room_quiet old new event BadSpan id step refl room
+passed can old new event Busy id access others step room = room_same old new id step.3 room
+passed can old new event _ id access others step room = others _ step room
+
+refused : (can : DeviceKind → Bool) (old new : State) (event : Event) (outcome : Outcome) (id d : ℕ) (access : Access) → RefusesBesides can old d access event outcome new → RoomAt old id → RoomAt new id
+refused can old new event (Refused why) id d access step room = room_quiet old new event (Refused why) id step refl room
+refused can old new event BadSpan id d access step room = room_quiet old new event BadSpan id step refl room
+refused can old new event Busy id d access step room = room_same old new id step.3 room
+refused can old new event _ id d access step room = absurd step
+
+waited : (old new : State) (outcome : Outcome) (id d : ℕ) → WaitsBesides old d outcome new → RoomAt old id → RoomAt new id
+waited old new (Refused why) id d step room = room_quiet old new (events.Step d) (Refused why) id step refl room
+waited old new (Stepped Waiting) id d step room = room_quiet old new (events.Step d) (Stepped Waiting) id step refl room
+waited old new _ id d step room = absurd step
 
 -- of the device that asks
 besides_room : (old new : State) (event : Event) (outcome : Outcome) (id : ℕ) → asker_of event ≡ Some id → AnswersBesides old event outcome new → RoomAt old id → RoomAt new id
-besides_room old new (events.Read d address len) outcome id who answers room = room_same old new id answers.1 room
-besides_room old new (events.Write d address bytes) outcome id who answers room = room_same old new id answers.1 room
-besides_room old new (events.Step d) outcome id who answers room = room_same old new id answers.1 room
+besides_room old new (events.Read d address len) outcome id who answers room =
+    refused sends_untranslated old new (events.Read d address len) outcome id d (read_of address len) answers room
+besides_room old new (events.Write d address bytes) outcome id who answers room =
+    refused sends_untranslated old new (events.Write d address bytes) outcome id d (write_of address bytes) answers room
+besides_room old new (events.Step d) outcome id who answers room = waited old new outcome id d answers room
 besides_room old new (events.ReadTranslated d address len) outcome id who answers room =
     let own : d ≡ id = cc in
     subst (λ n. RoomAt new n) own
-    (passed old new (events.ReadTranslated d address len) outcome d (read_of address len)
+    (passed forges old new (events.ReadTranslated d address len) outcome d (read_of address len)
     (λ reply step. room_quiet old new (events.ReadTranslated d address len) reply d step.1 (nothing_asked (events.ReadTranslated d address len) reply d refl)) answers
     (subst (λ n. RoomAt old n) (sym own) room))
 besides_room old new (events.WriteTranslated d address bytes) outcome id who answers room =
     let own : d ≡ id = cc in
     subst (λ n. RoomAt new n) own
-    (passed old new (events.WriteTranslated d address bytes) outcome d (write_of address bytes)
+    (passed forges old new (events.WriteTranslated d address bytes) outcome d (write_of address bytes)
     (λ reply step. room_quiet old new (events.WriteTranslated d address bytes) reply d step.1 (nothing_asked (events.WriteTranslated d address bytes) reply d refl)) answers
     (subst (λ n. RoomAt old n) (sym own) room))
 besides_room old new (events.ReadThroughCache d address len) outcome id who answers room =
     let own : d ≡ id = cc in
     subst (λ n. RoomAt new n) own
-    (passed old new (events.ReadThroughCache d address len) outcome d (read_of address len)
+    (passed sends_through_cache old new (events.ReadThroughCache d address len) outcome d (read_of address len)
     (λ reply step. through old new (events.ReadThroughCache d address len) reply d (read_of address len) (λ its. (its.0.frame, its.1)) step) answers
     (subst (λ n. RoomAt old n) (sym own) room))
 besides_room old new (events.WriteThroughCache d address bytes) outcome id who answers room =
     let own : d ≡ id = cc in
     subst (λ n. RoomAt new n) own
-    (passed old new (events.WriteThroughCache d address bytes) outcome d (write_of address bytes)
+    (passed sends_through_cache old new (events.WriteThroughCache d address bytes) outcome d (write_of address bytes)
     (λ reply step. through old new (events.WriteThroughCache d address bytes) reply d (write_of address bytes) (λ its. (its.0.frame, its.1)) step) answers
     (subst (λ n. RoomAt old n) (sym own) room))
 besides_room old new _ outcome id who answers room = cc
 
 -- of another device nothing is accepted
-passes_so : (old new : State) (id : ℕ) (access : Access) (event : Event) (outcome : Outcome) → PassesBesides old id access event outcome new → (new ≡ old) ⊎ Step old event outcome new
-passes_so old new id access event BadSpan step = inr step
-passes_so old new id access event Busy step = inl step.2
-passes_so old new id access event _ step = inr step.1
+passes_so : (can : DeviceKind → Bool) (old new : State) (id : ℕ) (access : Access) (event : Event) (outcome : Outcome) → PassesBesides can old id access event outcome new
+    → (new ≡ old) ⊎ Step old event outcome new
+passes_so can old new id access event (Refused why) step = inr step
+passes_so can old new id access event BadSpan step = inr step
+passes_so can old new id access event Busy step = inl step.3
+passes_so can old new id access event _ step = inr step.1
+
+refuses_so : (can : DeviceKind → Bool) (old new : State) (id : ℕ) (access : Access) (event : Event) (outcome : Outcome) → RefusesBesides can old id access event outcome new
+    → (new ≡ old) ⊎ Step old event outcome new
+refuses_so can old new id access event (Refused why) step = inr step
+refuses_so can old new id access event BadSpan step = inr step
+refuses_so can old new id access event Busy step = inl step.3
+refuses_so can old new id access event _ step = absurd step
+
+waits_so : (old new : State) (id : ℕ) (outcome : Outcome) → WaitsBesides old id outcome new → (new ≡ old) ⊎ Step old (events.Step id) outcome new
+waits_so old new id (Refused why) step = inr step
+waits_so old new id (Stepped Waiting) step = inr step
+waits_so old new id _ step = absurd step
 
 besides_so : (old new : State) (event : Event) (outcome : Outcome) → AnswersBesides old event outcome new → (new ≡ old) ⊎ Step old event outcome new
-besides_so old new (events.Read d address len) outcome answers = inl answers.1
-besides_so old new (events.Write d address bytes) outcome answers = inl answers.1
-besides_so old new (events.Step d) outcome answers = inl answers.1
-besides_so old new (events.ReadTranslated d address len) outcome answers = passes_so old new d (read_of address len) (events.ReadTranslated d address len) outcome answers
-besides_so old new (events.WriteTranslated d address bytes) outcome answers = passes_so old new d (write_of address bytes) (events.WriteTranslated d address bytes) outcome answers
-besides_so old new (events.ReadThroughCache d address len) outcome answers = passes_so old new d (read_of address len) (events.ReadThroughCache d address len) outcome answers
-besides_so old new (events.WriteThroughCache d address bytes) outcome answers = passes_so old new d (write_of address bytes) (events.WriteThroughCache d address bytes) outcome answers
+besides_so old new (events.Read d address len) outcome answers = refuses_so sends_untranslated old new d (read_of address len) (events.Read d address len) outcome answers
+besides_so old new (events.Write d address bytes) outcome answers = refuses_so sends_untranslated old new d (write_of address bytes) (events.Write d address bytes) outcome answers
+besides_so old new (events.Step d) outcome answers = waits_so old new d outcome answers
+besides_so old new (events.ReadTranslated d address len) outcome answers = passes_so forges old new d (read_of address len) (events.ReadTranslated d address len) outcome answers
+besides_so old new (events.WriteTranslated d address bytes) outcome answers = passes_so forges old new d (write_of address bytes) (events.WriteTranslated d address bytes) outcome answers
+besides_so old new (events.ReadThroughCache d address len) outcome answers =
+    passes_so sends_through_cache old new d (read_of address len) (events.ReadThroughCache d address len) outcome answers
+besides_so old new (events.WriteThroughCache d address bytes) outcome answers =
+    passes_so sends_through_cache old new d (write_of address bytes) (events.WriteThroughCache d address bytes) outcome answers
 besides_so old new _ outcome answers = inr answers
 
 other_room : (found : Option Walk) (old new : State) (event : Event) (outcome : Outcome) (id : ℕ) → ((asker_of event ≡ Some id) → ⊥) → AnswersWhole found old event outcome new

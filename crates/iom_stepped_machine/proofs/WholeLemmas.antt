@@ -1,14 +1,13 @@
 -- Where no walk takes several events the machine is the ledger machine.
-use Rattle.std.proofs.Common.{◌≡◌, ℕ, ◌==◌, Bool, true, false, List, [], ◌∷◌, Option, None, Some, if◌then◌else◌, refl, sym, ap, subst}
+use Rattle.std.proofs.Common.{◌≡◌, ℕ, ◌==◌, Bool, true, false, [], ◌∷◌, Option, None, Some, if◌then◌else◌, refl, sym, ap, subst}
 use Rattle.iom_machine.specs.declared.event.Event.{Event}
 use Rattle.iom_machine.specs.declared.event.Event.TheVariants as events
-use Rattle.iom_machine.specs.declared.outcome.Fetched.{Fetched as FetchedSo}
 use Rattle.iom_machine.specs.declared.outcome.Fetched.TheVariants.{Did}
 use Rattle.iom_machine.specs.declared.outcome.Outcome.{Outcome}
 use Rattle.iom_machine.specs.declared.outcome.Outcome.TheVariants.{Done, Fetched, Ticket}
 use Rattle.iom_machine.specs.declared.state.State.{State}
 use Rattle.iom_machine.specs.Devices.{device_of}
-use Rattle.iom_machine.specs.Machine.{Run, Step}
+use Rattle.iom_machine.specs.Machine.{Step}
 use Rattle.iom_stepped_machine.specs.Laws.{WholeRunsAreStepped, without_walks}
 use Rattle.iom_stepped_machine.specs.Machine.{Answer, AnswersWhole, SteppedStep, Whole, asker_of, gives_up_at_detach, walk_at, walks_after}
 use Rattle.iom_stepped_machine.specs.Walks.{Walk, Walks, begins_anew, begun_anew, no_walks, with_walk}

@@ -22,11 +22,10 @@ abbrev pub unless_busy : Event → Outcome → Option Answered
 unless_busy event Busy = None
 unless_busy event outcome = Some (event, outcome)
 
--- of what is answered beside a walk of the device that asks the ledger machine sees what needs no walk itself
+-- beside a walk of the device that asks the ledger machine sees what is answered by its own rules: what needs no walk, and each refusal but that one
 abbrev pub part_besides : Event → Outcome → Option Answered
-part_besides (events.Read id address len) outcome = None
-part_besides (events.Write id address bytes) outcome = None
-part_besides (events.Step id) outcome = None
+part_besides (events.Read id address len) outcome = unless_busy (events.Read id address len) outcome
+part_besides (events.Write id address bytes) outcome = unless_busy (events.Write id address bytes) outcome
 part_besides (events.ReadTranslated id address len) outcome = unless_busy (events.ReadTranslated id address len) outcome
 part_besides (events.WriteTranslated id address bytes) outcome = unless_busy (events.WriteTranslated id address bytes) outcome
 part_besides (events.ReadThroughCache id address len) outcome = unless_busy (events.ReadThroughCache id address len) outcome

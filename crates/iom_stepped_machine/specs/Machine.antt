@@ -4,7 +4,7 @@ use Rattle.iom_base.specs.declared.access.Access.{Access}
 use Rattle.iom_base.specs.declared.device_kind.DeviceKind.{DeviceKind}
 use Rattle.iom_base.specs.declared.refusal.Refusal.TheVariants.{NoSuchDevice}
 use Rattle.iom_base.specs.Accesses.{read_of, write_of, IsWithinPage, MayWant}
-use Rattle.iom_base.specs.DeviceKinds.{has_cache, is_block_device, sends_untranslated}
+use Rattle.iom_base.specs.DeviceKinds.{forges, has_cache, is_block_device, sends_through_cache, sends_untranslated}
 use Rattle.iom_machine.specs.declared.choice.Choice.{Choice}
 use Rattle.iom_machine.specs.declared.event.Event.{Event}
 use Rattle.iom_machine.specs.declared.event.Event.TheVariants as events
@@ -60,31 +60,49 @@ walk_at walks (Some id) = walks id
 abbrev pub IsFullBesides : State → ℕ → Type 0
 IsFullBesides state id = IsSomeAnd (device_of state id) (λ device. state.limits.in_flight ≤ length device.in_flight + 1)
 
--- beside a walk of its device a request is refused: a bad span first, then too many in flight
-abbrev pub RefusesBesides : State → ℕ → Access → Outcome → Type 0
-RefusesBesides old id access BadSpan = ¬ IsWithinPage access
-RefusesBesides old id access Busy = IsWithinPage access × IsFullBesides old id
-RefusesBesides old id access outcome = ⊥
+-- the device is there, and of a kind that can
+abbrev pub IsAbleAt : (DeviceKind → Bool) → State → ℕ → Type 0
+IsAbleAt can state id = IsSomeAnd (device_of state id) (λ device. can device.kind ≡ true)
+
+-- it can ask so, but for how many it has in flight
+abbrev pub IsBusyBesides : (DeviceKind → Bool) → State → ℕ → Access → State → Type 0
+IsBusyBesides can old id access new = IsAbleAt can old id × IsWithinPage access × IsFullBesides old id × (new ≡ old)
+
+-- Beside a walk of its device a request is refused: as ever one that no such device can ask, or of a bad span; then one where too many are in flight
+abbrev pub RefusesBesides : (DeviceKind → Bool) → State → ℕ → Access → Event → Outcome → State → Type 0
+RefusesBesides can old id access event (Refused why) new = Step old event (Refused why) new
+RefusesBesides can old id access event BadSpan new = Step old event BadSpan new
+RefusesBesides can old id access event Busy new = IsBusyBesides can old id access new
+RefusesBesides can old id access event outcome new = ⊥
 
 -- an access that says it is translated already, or that goes through the device's own cache, needs no walk, but finds one place fewer
-abbrev pub PassesBesides : State → ℕ → Access → Event → Outcome → State → Type 0
-PassesBesides old id access event BadSpan new = Step old event BadSpan new
-PassesBesides old id access event Busy new = IsWithinPage access × IsFullBesides old id × (new ≡ old)
-PassesBesides old id access event outcome new = (¬ IsFullBesides old id) × Step old event outcome new
+abbrev pub PassesBesides : (DeviceKind → Bool) → State → ℕ → Access → Event → Outcome → State → Type 0
+PassesBesides can old id access event (Refused why) new = Step old event (Refused why) new
+PassesBesides can old id access event BadSpan new = Step old event BadSpan new
+PassesBesides can old id access event Busy new = IsBusyBesides can old id access new
+PassesBesides can old id access event outcome new = (¬ IsFullBesides old id) × Step old event outcome new
 
--- what is answered to an event beside a walk of the device that asks. A block device waits for its access
+-- a block device waits for its access
+abbrev pub WaitsBesides : State → ℕ → Outcome → State → Type 0
+WaitsBesides old id (Refused why) new = Step old (events.Step id) (Refused why) new
+WaitsBesides old id (Stepped Waiting) new = Step old (events.Step id) (Stepped Waiting) new
+WaitsBesides old id outcome new = ⊥
+
+-- what is answered to an event beside a walk of the device that asks
 abbrev pub AnswersBesides : State → Event → Outcome → State → Type 0
-AnswersBesides old (events.Read id address len) outcome new = RefusesBesides old id (read_of address len) outcome × (new ≡ old)
-AnswersBesides old (events.Write id address bytes) outcome new = RefusesBesides old id (write_of address bytes) outcome × (new ≡ old)
+AnswersBesides old (events.Read id address len) outcome new =
+    RefusesBesides sends_untranslated old id (read_of address len) (events.Read id address len) outcome new
+AnswersBesides old (events.Write id address bytes) outcome new =
+    RefusesBesides sends_untranslated old id (write_of address bytes) (events.Write id address bytes) outcome new
 AnswersBesides old (events.ReadTranslated id address len) outcome new =
-    PassesBesides old id (read_of address len) (events.ReadTranslated id address len) outcome new
+    PassesBesides forges old id (read_of address len) (events.ReadTranslated id address len) outcome new
 AnswersBesides old (events.WriteTranslated id address bytes) outcome new =
-    PassesBesides old id (write_of address bytes) (events.WriteTranslated id address bytes) outcome new
+    PassesBesides forges old id (write_of address bytes) (events.WriteTranslated id address bytes) outcome new
 AnswersBesides old (events.ReadThroughCache id address len) outcome new =
-    PassesBesides old id (read_of address len) (events.ReadThroughCache id address len) outcome new
+    PassesBesides sends_through_cache old id (read_of address len) (events.ReadThroughCache id address len) outcome new
 AnswersBesides old (events.WriteThroughCache id address bytes) outcome new =
-    PassesBesides old id (write_of address bytes) (events.WriteThroughCache id address bytes) outcome new
-AnswersBesides old (events.Step id) outcome new = (outcome ≡ Stepped Waiting) × (new ≡ old)
+    PassesBesides sends_through_cache old id (write_of address bytes) (events.WriteThroughCache id address bytes) outcome new
+AnswersBesides old (events.Step id) outcome new = WaitsBesides old id outcome new
 AnswersBesides old event outcome new = Step old event outcome new
 
 -- and without one: as ever
@@ -127,9 +145,9 @@ BeginsAt old (events.Write id address bytes) new = BeginsWalk sends_untranslated
 BeginsAt old (events.Step id) new = (access : Access) × MayWant access × BeginsWalk walks_at_steps old id (Begins access) new
 BeginsAt old event new = ⊥
 
--- A REQUEST FINDS A WALK of its device: it lies within its page, and the device isn't busy
+-- A REQUEST FINDS A WALK of its device, which can ask so: it lies within its page, and the device isn't busy
 abbrev pub FindsWalk : SteppedState → ℕ → Access → Type 0
-FindsWalk old id access = (is_some (old.walks id) ≡ true) × IsWithinPage access × (¬ IsFullBesides old.ledger id)
+FindsWalk old id access = (is_some (old.walks id) ≡ true) × IsAbleAt sends_untranslated old.ledger id × IsWithinPage access × (¬ IsFullBesides old.ledger id)
 
 abbrev pub IsOccupied : SteppedState → Event → Type 0
 IsOccupied old (events.Read id address len) = FindsWalk old id (read_of address len)

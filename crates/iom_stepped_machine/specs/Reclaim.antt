@@ -3,6 +3,7 @@ use Rattle.std.specs.Prelude.{◌≡◌, ℕ, ◌+◌, ◌⊎◌, List, ◌∷�
 use Rattle.iom_base.specs.declared.access.Access.{Access}
 use Rattle.iom_base.specs.declared.device_kind.DeviceKind.TheVariants.{Raw}
 use Rattle.iom_base.specs.Accesses.{IsWithinPage}
+use Rattle.iom_base.specs.DeviceKinds.{sends_untranslated}
 use Rattle.iom_machine.specs.declared.event.Event.{Event}
 use Rattle.iom_machine.specs.declared.event.Event.TheVariants as events
 use Rattle.iom_machine.specs.declared.outcome.Outcome.{Outcome}
@@ -13,7 +14,7 @@ use Rattle.iom_machine.specs.Frames.{IsFree}
 use Rattle.iom_machine.specs.Headline.{AsksFor, GrantsFrame, GrantsFrameTo, IsOneStage, TouchesFrame, TouchesFrameBy, TouchesItsOwn}
 use Rattle.iom_machine.specs.Requests.{HoldsFor, IsBusy, with_accepted}
 use Rattle.iom_stepped_machine.specs.Laws.{IsReachedByLoads}
-use Rattle.iom_stepped_machine.specs.Machine.{Answer, IsFullBesides, Load, Loaded, Occupied, SteppedEvent, SteppedOutcome, SteppedRun, SteppedState, SteppedStep, Walking, Whole}
+use Rattle.iom_stepped_machine.specs.Machine.{Answer, IsAbleAt, IsFullBesides, Load, Loaded, Occupied, SteppedEvent, SteppedOutcome, SteppedRun, SteppedState, SteppedStep, Walking, Whole}
 use Rattle.iom_stepped_machine.specs.Walks.{Walk, event_of}
 
 -- Every access in flight may still reach its frame.
@@ -44,9 +45,9 @@ pub record SteppedPagesAreAccepted : Type 0 where
       → IsReachedByLoads old → SteppedStep old (Whole event) outcome new → AsksFor event id access → HoldsPage old id device access frame
       → old.walks id ≡ None → IsWithinPage access → ¬ IsBusy old.ledger.limits.in_flight device.in_flight
       → (outcome ≡ Walking) ⊎ IsAcceptedOn old device access frame outcome new
-  -- a device that has one is told so, where it could have one access more beside it
+  -- a device that has one is told so, where it can ask so, and could have one access more beside it
   pub beside : (old new : SteppedState) (event : Event) (outcome : SteppedOutcome) (id : ℕ) (access : Access) (walk : Walk)
-      → SteppedStep old (Whole event) outcome new → AsksFor event id access → old.walks id ≡ Some walk → IsWithinPage access → ¬ IsFullBesides old.ledger id
+      → SteppedStep old (Whole event) outcome new → AsksFor event id access → old.walks id ≡ Some walk → IsAbleAt sends_untranslated old.ledger id → IsWithinPage access → ¬ IsFullBesides old.ledger id
       → outcome ≡ Occupied
   -- at a load of its walk, where the page is held then, or the walk goes on
   pub at_load : (old new : SteppedState) (outcome : SteppedOutcome) (id : ℕ) (device : Device) (access : Access) (frame : ℕ) (walk : Walk)

@@ -1,5 +1,5 @@
 -- Walks that are under way: of each device one request at most, which is answered at the load that ends its walk.
-use Rattle.std.specs.Prelude.{ℕ, ◌==◌, Bool, true, false, List, Option, None, Some, option_map, if◌then◌else◌}
+use Rattle.std.specs.Prelude.{ℕ, ◌==◌, Bool, true, false, List, Option, None, option_map, if◌then◌else◌}
 use Rattle.iom_base.specs.declared.access.Access.{Access}
 use Rattle.iom_base.specs.Accesses.{read_of, write_of}
 use Rattle.iom_machine.specs.declared.event.Event.{Event}

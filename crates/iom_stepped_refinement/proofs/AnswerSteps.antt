@@ -39,7 +39,7 @@ use Rattle.iom_world_effects.specs.Shows.{PartsShow}
 use Rattle.iom_world_effects.proofs.DriverLemmas.{DriverInvariant}
 use Rattle.iom_world_effects.proofs.PartsLemmas.{StaysReported}
 use Rattle.iom_world_effects.proofs.PresentLemmas.{kind_present}
-use Rattle.iom_world_effects.proofs.RowPlaces.{IsFound, present_found}
+use Rattle.iom_world_effects.proofs.RowPlaces.{IsFound, present_found, shown_of}
 use Rattle.iom_world_effects.proofs.ServedLemmas.{IsAnswered}
 use Rattle.iom_world_effects.proofs.SoundFrom.{LeavesReport}
 use Rattle.iom_world_invariant.proofs.RequestKeeps.{record_leaves}
@@ -57,6 +57,11 @@ steps_at CachedBlock is = cc
 pub plugged_from : (parts : Parts) (state : State) (id : ℕ) → state.devices ≡ shown_devices parts.driver.devices (flights_of parts.iommu).rows parts.devices
     → (is : IsFound parts.driver.devices (flights_of parts.iommu).rows parts.devices id) → device_of state id ≡ Some (shown_device parts.driver.devices (flights_of parts.iommu).rows is.device)
 plugged_from parts state id shows is = rw (shows, is.shown) refl
+
+-- and one that isn't there isn't
+pub absent_from : (parts : Parts) (state : State) (id : ℕ) → state.devices ≡ shown_devices parts.driver.devices (flights_of parts.iommu).rows parts.devices
+    → shown_of parts.driver.devices (flights_of parts.iommu).rows parts.devices id ≡ None → device_of state id ≡ None
+absent_from parts state id shows none = rw (shows, none) refl
 
 module _ (parts : Parts) (state : State) (shows : PartsShow parts state) (id : ℕ) (asking : Asking) (asks : Asks parts.devices id asking) where
   pub found : IsFound parts.driver.devices (flights_of parts.iommu).rows parts.devices id

@@ -1,5 +1,9 @@
 -- A REQUEST THAT BEGINS is a step of the ledger machine with walks: its walk is under way, it is answered at once, or it is refused.
-use Rattle.std.proofs.Common.{◌≡◌, ℕ, ◌+◌, ◌^◌, ◌<◌, ◌≤◌, ◌∙◌, is_some, IsSome, List, length, Option, Some, None, refl, sym, ap, subst, arith, if◌then◌else◌}
+use Rattle.std.proofs.Common.{true, ◌≡◌, ℕ, ◌+◌, ◌^◌, ◌<◌, ◌≤◌, ◌∙◌, is_some, IsSome, List, length, Option, Some, None, refl, sym, ap, subst, arith, if◌then◌else◌, IsSomeAnd}
+use Rattle.iom_base.specs.DeviceKinds.{is_block_device, sends_untranslated}
+use Rattle.iom_machine.specs.BlockDevices.{TakesStep}
+use Rattle.iom_world_effects.proofs.PresentLemmas.{kind_present}
+use Rattle.iom_world_effects.proofs.RowPlaces.{present_found}
 use Rattle.iom_base.specs.Accesses.{IsWithinPage}
 use Rattle.iom_base.specs.Sizes.{in_flight_limit}
 use Rattle.iom_base.specs.declared.access.Access.{Access}
@@ -32,7 +36,7 @@ use Rattle.iom_world_effects.specs.Parts.{Parts}
 use Rattle.iom_world_effects.specs.Requests.{outcome_of_reply}
 use Rattle.iom_world_effects.proofs.DriverLemmas.{DriverInvariant}
 use Rattle.iom_world_effects.proofs.PartsLemmas.{StaysReady, StaysReported, parts_are}
-use Rattle.iom_world_invariant.proofs.RequestStep.{shows_where}
+use Rattle.iom_world_invariant.proofs.RequestStep.{acts_at, kind_found, shows_where}
 use Rattle.iom_world_refinement.proofs.EventLemmas.{access_chosen, no_access}
 use Rattle.iom_world_walks.proofs.BeginKeeps.{begun_answer}
 use Rattle.iom_world_walks.proofs.EffectsLeave.{RecordsLeave}
@@ -56,7 +60,7 @@ taken_none flights_rows rows id none = by (under_way_of rows id) none
     by None is = omega arith
     by (Some own) is = cc
 
-taken_some : (flights_rows : flights.Flights) (rows : List WalkRow) (id : ℕ) → IsSome (under_way_of rows id) → places_taken flights_rows rows id ≡ count_in (flights.row_of flights_rows.rows id) + 1
+pub taken_some : (flights_rows : flights.Flights) (rows : List WalkRow) (id : ℕ) → IsSome (under_way_of rows id) → places_taken flights_rows rows id ≡ count_in (flights.row_of flights_rows.rows id) + 1
 taken_some flights_rows rows id some = by (under_way_of rows id) some
   where
     by : (u : Option UnderWay) → IsSome u → count_in (flights.row_of flights_rows.rows id) + (if is_some u then 1 else 0) ≡ count_in (flights.row_of flights_rows.rows id) + 1
@@ -72,9 +76,14 @@ as_whole state id (Begins access) response next none step = (subst (λ w. Answer
 
 -- one that is under way already
 pub waits_step : WaitsAreSteps
-waits_step parts id rows state some shows =
+waits_step parts id rows state (kind, there, block) some shows =
     let walk = some_shown (length parts.memory) parts.devices rows state.walks shows.walks id some in
-    (subst (λ w. AnswersWhole w state.ledger (event_of id (Begins no_access)) (outcome.Stepped Waiting) state.ledger) (sym walk.1) (refl, refl), refl)
+    let is = present_found parts.driver.devices (flights_of parts.iommu).rows parts.devices id (kind_present parts.devices id kind there) in
+    let able = ap is_block_device (kind_found parts.driver.devices (flights_of parts.iommu).rows parts.devices id kind is there) ∙ block in
+    let step =
+    acts_at is_block_device (λ d. TakesStep state.ledger d no_access 0 (outcome.Stepped Waiting) state.ledger) parts state.ledger id (outcome.Stepped Waiting) state.ledger shows.ledger.devices is able
+    (tt, refl) in
+    (subst (λ w. AnswersWhole w state.ledger (event_of id (Begins no_access)) (outcome.Stepped Waiting) state.ledger) (sym walk.1) (access_chosen no_access 0, step), refl)
 
 -- a walk begins
 begins_at : (state : SteppedState) (id : ℕ) (asking : Asking) (own : Device) → device_of state.ledger id ≡ Some own → CanAsk own.kind asking → IsWithinPage (access_of asking)
@@ -103,6 +112,12 @@ module _ {walks : List copies.Walk} (laws : RowLaws) (ends : RequestsEnd) (old n
       let same : new ≡ old = parts_are new old.memory old.iommu old.driver old.devices old.fabric memory iommu driver devices fabric in
       subst (λ parts. SteppedShow parts new_rows state) (sym same) (subst (λ rs. SteppedShow old rs state) (sym rows_stay) shows)
 
+  -- the machine sees that the device can ask so
+  able : sends_untranslated asks.kind ≡ true → machine.IsAbleAt sends_untranslated state.ledger id
+  able can =
+      subst (λ d. IsSomeAnd d (λ device. sends_untranslated device.kind ≡ true)) (sym (plugged_at old state.ledger shows.ledger id asking asks))
+      (ap sends_untranslated (kind_is old state.ledger shows.ledger id asking asks) ∙ can)
+
   -- what the machine answers to itself
   bad_span : ¬ IsWithinPage access → NothingChanges old.memory old.iommu rows new.memory new.iommu new_rows → IsStep (machine.Answer outcome.BadSpan)
   bad_span wide same =
@@ -111,13 +126,18 @@ module _ {walks : List copies.Walk} (laws : RowLaws) (ends : RequestsEnd) (old n
         as_whole state id asking outcome.BadSpan state.ledger (none_walks none) (access_chosen access 0, answer_step old state.ledger shows.ledger id asking asks BadSpan 0 state.ledger wide refl),
         shows_same same,
       ))
-      (λ some. let walk = some_shown (length old.memory) old.devices rows state.walks shows.walks id some in (state, by asking wide alone walk.0 walk.1 some, shows_same same))
+      (λ some.
+      let walk = some_shown (length old.memory) old.devices rows state.walks shows.walks id some in (
+        state,
+        by asking (access_chosen access 0, answer_step old state.ledger shows.ledger id asking asks BadSpan 0 state.ledger wide refl) alone walk.0 walk.1,
+        shows_same same,
+      ))
     where
-      by : (asking : Asking) → ¬ IsWithinPage (access_of asking) → AsksAlone rows id asking → (walk : Walk) → state.walks id ≡ Some walk → IsSome (under_way_of rows id)
+      by : (asking : Asking) → Step state.ledger (event_of id asking) outcome.BadSpan state.ledger → AsksAlone rows id asking → (walk : Walk) → state.walks id ≡ Some walk
           → SteppedStep state (Whole (event_of id asking)) (machine.Answer outcome.BadSpan) state
-      by (Reads address len) wide alone walk is some = (subst (λ w. AnswersWhole w state.ledger (event_of id (Reads address len)) outcome.BadSpan state.ledger) (sym is) (wide, refl), refl)
-      by (Writes address bytes) wide alone walk is some = (subst (λ w. AnswersWhole w state.ledger (event_of id (Writes address bytes)) outcome.BadSpan state.ledger) (sym is) (wide, refl), refl)
-      by (Begins other) wide alone walk is some = let both : Some walk ≡ None = sym is ∙ none_walks alone in cc
+      by (Reads address len) step alone walk is = (subst (λ w. AnswersWhole w state.ledger (event_of id (Reads address len)) outcome.BadSpan state.ledger) (sym is) step, refl)
+      by (Writes address bytes) step alone walk is = (subst (λ w. AnswersWhole w state.ledger (event_of id (Writes address bytes)) outcome.BadSpan state.ledger) (sym is) step, refl)
+      by (Begins other) step alone walk is = let both : Some walk ≡ None = sym is ∙ none_walks alone in cc
 
   busy : IsWithinPage access → in_flight_limit ≤ places_taken (flights_of old.iommu) rows id → NothingChanges old.memory old.iommu rows new.memory new.iommu new_rows → IsStep (machine.Answer outcome.Busy)
   busy within full same =
@@ -133,13 +153,13 @@ module _ {walks : List copies.Walk} (laws : RowLaws) (ends : RequestsEnd) (old n
       (λ some.
       let many : in_flight_limit ≤ count_in (flights.row_of (flights_of old.iommu).rows id) + 1 = subst (λ n. in_flight_limit ≤ n) (taken_some (flights_of old.iommu) rows id some) full in
       let walk = some_shown (length old.memory) old.devices rows state.walks shows.walks id some in
-      (state, by asking within alone (full_besides old state.ledger shows.ledger id asking asks many) walk.0 walk.1, shows_same same))
+      (state, by asking asks.can within alone (full_besides old state.ledger shows.ledger id asking asks many) walk.0 walk.1, shows_same same))
     where
-      by : (asking : Asking) → IsWithinPage (access_of asking) → AsksAlone rows id asking → machine.IsFullBesides state.ledger id → (walk : Walk) → state.walks id ≡ Some walk
+      by : (asking : Asking) → CanAsk asks.kind asking → IsWithinPage (access_of asking) → AsksAlone rows id asking → machine.IsFullBesides state.ledger id → (walk : Walk) → state.walks id ≡ Some walk
           → SteppedStep state (Whole (event_of id asking)) (machine.Answer outcome.Busy) state
-      by (Reads address len) within alone full walk is = (subst (λ w. AnswersWhole w state.ledger (event_of id (Reads address len)) outcome.Busy state.ledger) (sym is) ((within, full), refl), refl)
-      by (Writes address bytes) within alone full walk is = (subst (λ w. AnswersWhole w state.ledger (event_of id (Writes address bytes)) outcome.Busy state.ledger) (sym is) ((within, full), refl), refl)
-      by (Begins other) within alone full walk is = let both : Some walk ≡ None = sym is ∙ none_walks alone in cc
+      by (Reads address len) can within alone full walk is = (subst (λ w. AnswersWhole w state.ledger (event_of id (Reads address len)) outcome.Busy state.ledger) (sym is) (able can, within, full, refl), refl)
+      by (Writes address bytes) can within alone full walk is = (subst (λ w. AnswersWhole w state.ledger (event_of id (Writes address bytes)) outcome.Busy state.ledger) (sym is) (able can, within, full, refl), refl)
+      by (Begins other) can within alone full walk is = let both : Some walk ≡ None = sym is ∙ none_walks alone in cc
 
   -- one of the device is under way
   occupied : IsWithinPage access → places_taken (flights_of old.iommu) rows id < in_flight_limit → IsSome (under_way_of rows id)
@@ -147,13 +167,13 @@ module _ {walks : List copies.Walk} (laws : RowLaws) (ends : RequestsEnd) (old n
   occupied within few some same =
       let room : count_in (flights.row_of (flights_of old.iommu).rows id) + 1 < in_flight_limit = subst (λ n. n < in_flight_limit) (taken_some (flights_of old.iommu) rows id some) few in
       let walk = some_shown (length old.memory) old.devices rows state.walks shows.walks id some in
-      (state, by asking within alone (room_besides old state.ledger shows.ledger id asking asks room) walk.0 walk.1, shows_same same)
+      (state, by asking asks.can within alone (room_besides old state.ledger shows.ledger id asking asks room) walk.0 walk.1, shows_same same)
     where
-      by : (asking : Asking) → IsWithinPage (access_of asking) → AsksAlone rows id asking → ¬ machine.IsFullBesides state.ledger id → (walk : Walk) → state.walks id ≡ Some walk
+      by : (asking : Asking) → CanAsk asks.kind asking → IsWithinPage (access_of asking) → AsksAlone rows id asking → ¬ machine.IsFullBesides state.ledger id → (walk : Walk) → state.walks id ≡ Some walk
           → SteppedStep state (Whole (event_of id asking)) machine.Occupied state
-      by (Reads address len) within alone room walk is = ((rw is refl, within, room), refl)
-      by (Writes address bytes) within alone room walk is = ((rw is refl, within, room), refl)
-      by (Begins other) within alone room walk is = let both : Some walk ≡ None = sym is ∙ none_walks alone in cc
+      by (Reads address len) can within alone room walk is = ((rw is refl, able can, within, room), refl)
+      by (Writes address bytes) can within alone room walk is = ((rw is refl, able can, within, room), refl)
+      by (Begins other) can within alone room walk is = let both : Some walk ≡ None = sym is ∙ none_walks alone in cc
 
   -- IT IS UNDER WAY
   walking : new.memory ≡ old.memory → BeginsWalk old.iommu rows id access new.iommu new_rows → IsStep machine.Walking

@@ -3,3 +3,5 @@ pub mod AnswerSteps
 pub mod LoadSteps
 pub mod BeginSteps
 pub mod AnewSteps
+pub mod KindsStay
+pub mod OtherSteps

@@ -1,5 +1,5 @@
 //! Laws of a world in which requests are under way, each the contract of a function that takes laws of those below.
-ghost use Rattle.iom_stepped_refinement.specs.Laws.{BeginsAreSteps, FetchesAreSteps, LoadsAreSteps, WaitsAreSteps};
+ghost use Rattle.iom_stepped_refinement.specs.Laws.{BeginsAreSteps, BusyIsAStep, FetchesAreSteps, LoadsAreSteps, OthersAreSteps, WaitsAreSteps};
 
 use iom_driver::laws::others_leave_standing;
 use iom_standing_walks::{directory_law, driven_law, fault_law, leaf_law, standing_law};
@@ -49,3 +49,19 @@ pub fn fetches_law()
     laws_below();
     others_leave_standing();
 }
+
+/// And each other event: as in a world without walks. A reset, a revival, a queue that is set and the detach of a block
+/// device give a walk up. Of a device that asks for an access nothing is under way; or it is refused, as ever; or it
+/// needs no walk, and what is under way leaves it a place.
+pub fn others_law()
+    ensures { OthersAreSteps }
+{
+    laws_below();
+    others_leave_standing();
+}
+
+/// A request that says it is translated already, or that goes through its device's own cache, is busy where what is under
+/// way takes the last place.
+pub fn busy_law()
+    ensures { BusyIsAStep }
+{}

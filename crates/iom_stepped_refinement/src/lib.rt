@@ -7,4 +7,4 @@
 
 mod laws;
 
-pub use laws::{begins_law, fetches_law, loads_law, waits_law};
+pub use laws::{begins_law, busy_law, fetches_law, loads_law, others_law, waits_law};

@@ -37,3 +37,4 @@ pub mod RestartStep
 pub mod RevivalReasons
 pub mod RevivalStep
 pub mod StoreLemmas
+pub mod EventSteps
