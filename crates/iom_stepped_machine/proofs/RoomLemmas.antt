@@ -207,7 +207,7 @@ waits_so old new id (Refused why) step = inr step
 waits_so old new id (Stepped Waiting) step = inr step
 waits_so old new id _ step = absurd step
 
-besides_so : (old new : State) (event : Event) (outcome : Outcome) → AnswersBesides old event outcome new → (new ≡ old) ⊎ Step old event outcome new
+pub besides_so : (old new : State) (event : Event) (outcome : Outcome) → AnswersBesides old event outcome new → (new ≡ old) ⊎ Step old event outcome new
 besides_so old new (events.Read d address len) outcome answers = refuses_so sends_untranslated old new d (read_of address len) (events.Read d address len) outcome answers
 besides_so old new (events.Write d address bytes) outcome answers = refuses_so sends_untranslated old new d (write_of address bytes) (events.Write d address bytes) outcome answers
 besides_so old new (events.Step d) outcome answers = waits_so old new d outcome answers

@@ -5,3 +5,7 @@ pub mod BeginSteps
 pub mod AnewSteps
 pub mod KindsStay
 pub mod OtherSteps
+pub mod DisksAfter
+pub mod FactsStay
+pub mod RunSteps
+pub mod IdleLemmas

@@ -49,7 +49,7 @@ use Rattle.iom_stepped_refinement.proofs.KindsStay.{KindsStay, kinds_stay}
 use Rattle.iom_stepped_refinement.proofs.WalkShows.{none_shown, some_shown}
 
 -- the facts of a world without walks under way
-without : {walks : List copies.Walk} (parts : Parts) (events : ℕ) → InvariantWith walks parts events → PartsInvariant parts events
+pub without : {walks : List copies.Walk} (parts : Parts) (events : ℕ) → InvariantWith walks parts events → PartsInvariant parts events
 without parts events invariants = given_up parts events (λ walk there. absurd (in_none walk there)) invariants
 
 -- the walks of devices that stay are shown still
@@ -67,7 +67,7 @@ row_stays frames id devices new_devices (Some row) walk stay is = by row.under_w
         (shown, same, record { asks = asks_still shown request.asks; access = request.access; left = request.left; ends = request.ends; few = request.few })
 
 -- nothing is under way
-row_idle : (frames id : ℕ) (devices : List Device) (row : Option WalkRow) (walk : Option Walk) → under_way_in row ≡ None → walk ≡ None → ShowsRow frames devices id row walk
+pub row_idle : (frames id : ℕ) (devices : List Device) (row : Option WalkRow) (walk : Option Walk) → under_way_in row ≡ None → walk ≡ None → ShowsRow frames devices id row walk
 row_idle frames id devices None walk idle none = none
 row_idle frames id devices (Some row) walk idle none = subst (λ u. ShowsUnderWay frames devices id row u walk) (sym idle) none
 

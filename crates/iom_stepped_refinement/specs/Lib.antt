@@ -1,2 +1,4 @@
 pub mod Shows
 pub mod Laws
+pub mod Effect
+pub mod Runs

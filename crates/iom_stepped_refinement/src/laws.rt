@@ -1,10 +1,15 @@
 //! Laws of a world in which requests are under way, each the contract of a function that takes laws of those below.
 ghost use Rattle.iom_stepped_refinement.specs.Laws.{BeginsAreSteps, BusyIsAStep, FetchesAreSteps, LoadsAreSteps, OthersAreSteps, WaitsAreSteps};
+ghost use Rattle.iom_stepped_refinement.specs.Runs.{EventsAreSteps, EventsKeepFacts, IdleWorldsAreShown, IdleWorldsAreSound, RunsAreReached, RunsAreRuns, WalksKeepFacts};
 
 use iom_driver::laws::others_leave_standing;
 use iom_standing_walks::{directory_law, driven_law, fault_law, leaf_law, standing_law};
 use iom_stepped_requests::laws::bound_law;
 use iom_world_effects::laws_below;
+use iom_world_walks::{
+    begins_law as begins_keep, fetches_law as fetches_keep, loads_law as loads_keep,
+    others_law as others_keep,
+};
 
 /// A request that begins is a step of the ledger machine with walks, as it is told: its walk is under way, or it is
 /// answered at once, or refused, or finds its device occupied.
@@ -64,4 +69,41 @@ pub fn others_law()
 /// way takes the last place.
 pub fn busy_law()
     ensures { BusyIsAStep }
+{}
+
+/// All that is true of a world in which requests are under way is true after each event, whatever that is: of the world
+/// after it nothing is asked but what the types of its parts say.
+pub fn facts_law()
+    ensures { EventsKeepFacts }
+{
+    begins_keep();
+    loads_keep();
+    fetches_keep();
+    others_keep();
+}
+
+/// All of these together: each event of a world in which requests are under way is a step (`step`). So a run of it is a
+/// run of the ledger machine with walks, after which all is true still (`run`). From power-on on what it comes to is
+/// reached by that machine (`reached`): of it the reclaim theorem of such runs speaks.
+pub fn runs_law()
+    ensures step { EventsAreSteps }
+    ensures run { RunsAreRuns }
+    ensures reached { RunsAreReached }
+{
+    begins_law();
+    waits_law();
+    loads_law();
+    fetches_law();
+    others_law();
+    busy_law();
+    facts_law();
+}
+
+/// A world in which nothing is under way has all that is true of a world without walks (`sound`), and is shown as that is,
+/// at power-on too (`shown`). Whatever is under way, all is true of its parts that is true of a world without walks
+/// (`facts`).
+pub fn idle_law()
+    ensures sound { IdleWorldsAreSound }
+    ensures shown { IdleWorldsAreShown }
+    ensures facts { WalksKeepFacts }
 {}

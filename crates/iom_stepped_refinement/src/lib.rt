@@ -7,4 +7,7 @@
 
 mod laws;
 
-pub use laws::{begins_law, busy_law, fetches_law, loads_law, others_law, waits_law};
+pub use laws::{
+    begins_law, busy_law, facts_law, fetches_law, idle_law, loads_law, others_law, runs_law,
+    waits_law,
+};
