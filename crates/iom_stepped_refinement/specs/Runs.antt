@@ -29,7 +29,7 @@ pub record Moment : Type 0 where
   pub disks : List ℕ
   pub events : ℕ
 
--- what the types of its parts say of them at each moment: its driver is ready, of each device one request at most is under way, and there is room for it when it ends
+-- what calls and types say of its parts at each moment: its driver is ready, of each device one request at most is under way, and there is room for it when it ends
 pub record IsOfCode (moment : Moment) : Type 0 where
   pub driver : Driver
   pub state : moment.parts.driver ≡ state_of driver

@@ -72,7 +72,7 @@ pub fn busy_law()
 {}
 
 /// All that is true of a world in which requests are under way is true after each event, whatever that is: of the world
-/// after it nothing is asked but what the types of its parts say.
+/// after it nothing is asked but what calls and types say of its parts.
 pub fn facts_law()
     ensures { EventsKeepFacts }
 {
