@@ -136,7 +136,7 @@ arrived_kinds (sent.InvDone serial) old new id others (delivered.NotClosed named
 arrived_kinds (sent.InvDone serial) old new id others _ never other = absurd never
 
 -- a device with a cache is no block device without one
-cached_kind : (devices : List Device) (id : ℕ) → HaveTheirCaches devices → kind_in devices id ≡ Some Block → cache_of devices id ≡ None
+pub cached_kind : (devices : List Device) (id : ℕ) → HaveTheirCaches devices → kind_in devices id ≡ Some Block → cache_of devices id ≡ None
 cached_kind [] id own is = cc
 cached_kind (first ∷ others) id own is = elim (eqb_tells first.id id) [
   | inl e ↦

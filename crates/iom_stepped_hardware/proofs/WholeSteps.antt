@@ -122,7 +122,7 @@ block_kind (Some Ats) is = cc
 block_kind (Some Block) is = refl
 block_kind (Some CachedBlock) is = cc
 
-idle_of : (parts : BoardParts) (blocks : List ShownBlock) (rows : List WalkRow) (id : ℕ) (block : ShownBlock) → AskStill parts.devices blocks rows → block_with blocks id ≡ Some block
+pub idle_of : (parts : BoardParts) (blocks : List ShownBlock) (rows : List WalkRow) (id : ℕ) (block : ShownBlock) → AskStill parts.devices blocks rows → block_with blocks id ≡ Some block
     → walks_itself (kind_in parts.devices id) ≡ false → under_way_of rows id ≡ None
 idle_of parts blocks rows id block still there cannot = by_row (row_of rows id) refl
   where

@@ -1,5 +1,5 @@
 -- A block device takes a step, where a walk makes one load an event (virtio 1.2, sections 2.7 and 5.2).
-use Rattle.std.specs.Prelude.{◌≡◌, ℕ, Bool, true, false, List, Option, None, Some, Result, Ok, Err, is_some}
+use Rattle.std.specs.Prelude.{◌≡◌, ◌<◌, ◌^◌, ℕ, Bool, true, false, List, Option, None, Some, Result, Ok, Err, is_some}
 use Rattle.iom_base.specs.Accesses.{MayWant}
 use Rattle.iom_base.specs.DeviceKinds.{is_block_device}
 use Rattle.iom_base.specs.declared.access.Access.{Access}
@@ -43,11 +43,12 @@ front_after (Ok begun.Walking) front = front
 front_after (Ok begun.Occupied) front = front
 front_after (Err why) front = front
 
--- it begins the access that is wanted, which lies within one page
+-- it begins the access that is wanted, which lies within one page of the 64-bit address space
 pub record BeginsAny (wanted : Wanted) (old : BoardParts) (rows : List WalkRow) (id : ℕ) (given : Result Begun Refusal) (new : BoardParts) (new_rows : List WalkRow) : Type 0 where
   pub access : Access
   pub named : wanted_access wanted ≡ Some access
   pub wants : MayWant access
+  pub fits : access.address < 2 ^ 64
   pub begins : BeginsAccessBeside is_block_device old rows id access given new new_rows
 
 -- it begins the access that it wants, and is told

@@ -129,14 +129,14 @@ refused_besides old new (happens.Step id) why step = step
 refused_besides old new _ why step = step
 
 -- and what needs no walk is answered as ever, where there is room
-passed : (can : DeviceKind → Bool) (old new : State) (id : ℕ) (access : Access) (event : Event) (answered : Outcome) → answered ≢ outcome.Busy → ¬ IsFullBesides old id → Step old event answered new
-    → PassesBesides can old id access event answered new
+passed : (can : DeviceKind → Bool) (old new : State) (id : ℕ) (access : Access) (event : Event) (answered : Outcome) → answered ≢ outcome.Busy
+    → (answered ≡ outcome.BadSpan) ⊎ (¬ IsFullBesides old id) → Step old event answered new → PassesBesides can old id access event answered new
 passed can old new id access event (outcome.Refused why) idle room step = step
 passed can old new id access event outcome.BadSpan idle room step = step
 passed can old new id access event outcome.Busy idle room step = absurd (idle refl)
-passed can old new id access event _ idle room step = (room, step)
+passed can old new id access event _ idle room step = elim room [ inl bad ↦ cc | inr free ↦ (free, step) ]
 
-passed_besides : (old new : State) (event : Event) (answered : Outcome) → NeedsNoWalk event → answered ≢ outcome.Busy → ((id : ℕ) → asker_of event ≡ Some id → ¬ IsFullBesides old id)
+passed_besides : (old new : State) (event : Event) (answered : Outcome) → NeedsNoWalk event → answered ≢ outcome.Busy → ((id : ℕ) → asker_of event ≡ Some id → (answered ≡ outcome.BadSpan) ⊎ (¬ IsFullBesides old id))
     → Step old event answered new → AnswersBesides old event answered new
 passed_besides old new (happens.ReadTranslated id address len) answered needs idle room step = passed forges old new id (read_of address len) (happens.ReadTranslated id address len) answered idle (room id refl) step
 passed_besides old new (happens.WriteTranslated id address bytes) answered needs idle room step = passed forges old new id (write_of address bytes) (happens.WriteTranslated id address bytes) answered idle (room id refl) step
@@ -199,11 +199,14 @@ module _ {walks left_walks : List copies.Walk} (laws : ServiceLaws) (disks : Lis
           by None idle = let both : Some walk ≡ None = sym is ∙ none_shown (length old.memory) old.devices rows state.walks shows.walks id idle in cc
           by (Some own) busy = refl
 
-      room_by : PassesBy old rows event answered → (walk : Walk) → walk_at state.walks (asker_of event) ≡ Some walk → (id : ℕ) → asker_of event ≡ Some id → ¬ IsFullBesides state.ledger id
+      room_by : PassesBy old rows event answered → (walk : Walk) → walk_at state.walks (asker_of event) ≡ Some walk → (id : ℕ) → asker_of event ≡ Some id → (answered ≡ outcome.BadSpan) ⊎ (¬ IsFullBesides state.ledger id)
       room_by passes walk is id who =
           let some : IsSome (under_way_of rows id) = under_way id walk (subst (λ asker. walk_at state.walks asker ≡ Some walk) who is) in
           let there = walker_there (length old.memory) old.devices rows state.walks shows.walks id some in
-          room_besides old state.ledger shows.ledger id there.0 there.1 (subst (λ n. n < in_flight_limit) (taken_some (flights_of old.iommu) rows id some) (passes.room id who))
+          elim (passes.room id who) [
+            | inl bad ↦ inl bad
+            | inr free ↦ inr (room_besides old state.ledger shows.ledger id there.0 there.1 (subst (λ n. n < in_flight_limit) (taken_some (flights_of old.iommu) rows id some) free))
+          ]
 
       answers : (walk : Option Walk) → walk_at state.walks (asker_of event) ≡ walk → (next : State) → Step state.ledger event answered next
           → AnswersWhole (walk_at state.walks (asker_of event)) state.ledger event answered next

@@ -17,7 +17,7 @@ use Rattle.iom_machine.specs.declared.event.Event.{Event}
 use Rattle.iom_machine.specs.declared.event.Event.TheVariants.{Fetch, ReadThroughCache, ReadTranslated, Step, WriteThroughCache, WriteTranslated}
 use Rattle.iom_machine.specs.declared.outcome.BlockStep.TheVariants.{Waiting}
 use Rattle.iom_machine.specs.declared.outcome.Outcome.{Outcome}
-use Rattle.iom_machine.specs.declared.outcome.Outcome.TheVariants.{Busy, Refused, Stepped}
+use Rattle.iom_machine.specs.declared.outcome.Outcome.TheVariants.{BadSpan, Busy, Refused, Stepped}
 use Rattle.iom_stepped_machine.specs.Machine.{SteppedState, SteppedStep, Whole, Load, Answer, asker_of}
 use Rattle.iom_stepped_machine.specs.Walks.{Asking, Begins, Reads, Writes, access_of, event_of}
 use Rattle.iom_stepped_refinement.specs.Shows.{Asks, SteppedShow, told_at_begin, told_at_load}
@@ -100,11 +100,11 @@ able_for event = is_any_kind
 abbrev pub AsksBesideNone : List WalkRow → Event → Type 0
 AsksBesideNone rows event = (id : ℕ) → asker_of event ≡ Some id → under_way_of rows id ≡ None
 
--- it needs no walk, and what is under way of its device leaves a place among the eight
+-- it needs no walk, and what is under way of its device leaves a place among the eight; one of a bad span needs none
 pub record PassesBy (old : Parts) (rows : List WalkRow) (event : Event) (answered : Outcome) : Type 0 where
   pub needs_none : NeedsNoWalk event
   pub not_busy : answered ≢ Busy
-  pub room : (id : ℕ) → asker_of event ≡ Some id → places_taken (flights_of old.iommu) rows id < in_flight_limit
+  pub room : (id : ℕ) → asker_of event ≡ Some id → (answered ≡ BadSpan) ⊎ (places_taken (flights_of old.iommu) rows id < in_flight_limit)
 
 -- A DEVICE THAT ASKS FOR AN ACCESS is answered as where no walk is under way: none of it is, the event is refused, or passes by
 abbrev pub AsksAsEver : Parts → List WalkRow → Event → Outcome → Type 0

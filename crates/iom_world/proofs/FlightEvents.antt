@@ -57,6 +57,7 @@ use Rattle.iom_world_effects.specs.Effect.{AddsRow, Effect}
 use Rattle.iom_world_effects.specs.Parts.{Parts}
 use Rattle.iom_world_effects.specs.Requests.{AsksAccess, AsksTranslated}
 use Rattle.iom_world_effects.specs.ThroughCache.{DeviceAsksThroughCache, FindsFrame, TriesCache, cached_frame}
+use Rattle.iom_world.proofs.IommuStays.{flights_left}
 use Rattle.iom_world.proofs.NumberLemmas.{KeepsAllNumbers, same_numbers, keeps_accepted, keeps_added}
 
 -- between parts
@@ -68,65 +69,6 @@ same_iommu old new same = same_numbers (flights_of old.iommu) (flights_of new.io
 
 pub same_parts : (old new : Parts) → new ≡ old → Keeps old new
 same_parts old new same = same_iommu old new (ap (λ (p : Parts). p.iommu) same)
-
--- COMMANDS that are appended write registers alone
-flights_appended : (commands : List Command) (memory memory' : List (List ℕ)) (io io' : Iommu) → AppendsAll mmio memory io commands memory' io' → flights_of io' ≡ flights_of io
-flights_appended [] memory memory' io io' all = ap flights_of all.1
-flights_appended (command ∷ later) memory memory' io io' (mid, between, first, rest) =
-    flights_appended later mid memory' between io' rest ∙ ap (λ (i : Iommu). flights_of i) first.rung
-
-released : (d d' : DriverState) (memory memory' : List (List ℕ)) (io io' : Iommu) (id page : ℕ) (answer : Result Ticket Refusal)
-    → AnswersRelease mmio d memory io id page answer d' memory' io' → flights_of io' ≡ flights_of io
-released d d' memory memory' io io' id page (Ok ticket) (none, queues) =
-    flights_appended (release_commands id queues.stage page (completion_address (length memory)) (last_fence d + 1)) (unmapped (size_in queues.stage.mode) memory queues.stage.root page) memory' io io'
-    queues.queued
-released d d' memory memory' io io' id page (Err why) refused = ap flights_of refused.3
-
-detached : (d d' : DriverState) (memory memory' : List (List ℕ)) (io io' : Iommu) (id : ℕ) (answer : Result Ticket Refusal)
-    → DetachEffect mmio d memory io id answer d' memory' io' → flights_of io' ≡ flights_of io
-detached d d' memory memory' io io' id (Ok ticket) queues =
-    flights_appended (detach_commands id queues.stage (completion_address (length memory)) (last_fence d + 1))
-    (without_context memory (root_level d.levels) (directory_frame (length memory)) id) memory' io io' queues.queued
-detached d d' memory memory' io io' id (Err why) same = ap flights_of same.2
-
-quarantined : (d d' : DriverState) (memory memory' : List (List ℕ)) (io io' : Iommu) (id : ℕ) (answer : Result Ticket Refusal)
-    → AnswersQuarantine mmio d memory io id answer d' memory' io' → flights_of io' ≡ flights_of io
-quarantined d d' memory memory' io io' id (Ok ticket) (none, queues) =
-    flights_appended (detach_commands id queues.stage (completion_address (length memory)) (last_fence d + 1))
-    (all_unmapped (size_in queues.stage.mode) (without_context memory (root_level d.levels) (directory_frame (length memory)) id) queues.stage.root queues.pages) memory' io io' queues.queued
-quarantined d d' memory memory' io io' id (Err why) refused = ap flights_of refused.3
-
-restarted : (d d' : DriverState) (memory memory' : List (List ℕ)) (io io' : Iommu) (answer : Result (Unit {0}) Refusal)
-    → AnswersRestart mmio d memory io answer d' memory' io' → flights_of io' ≡ flights_of io
-restarted d d' memory memory' io io' (Ok done) (none, queues) =
-    flights_appended (restart_commands d.devices (completion_address (length memory)) (last_fence d + 1)) memory memory' (turned_off_and_on mmio io) io' queues.queued
-restarted d d' memory memory' io io' (Err why) refused = ap flights_of refused.3
-
-reported : (d : DriverState) (memory : List (List ℕ)) (io io' : Iommu) (answer : Result (Option Fields) Refusal) → AnswersFaults mmio d memory io answer io' → flights_of io' ≡ flights_of io
-reported d memory io io' (Ok (Some fields)) (none, (takes, list)) = ap flights_of takes.1
-reported d memory io io' (Ok None) (none, (empty, is)) = ap flights_of is
-reported d memory io io' (Err why) (refused, is) = ap flights_of is
-
--- A FETCH and a timeout
-stopped_at : (memory : List (List ℕ)) (entry : Option QueueEntry) (old new : Iommu) → StopsAtEntry memory entry old new → flights_of new ≡ flights_of old
-stopped_at memory None old new stops = absurd stops
-stopped_at memory (Some stands.Outside) old new is = ap flights_of is
-stopped_at memory (Some (stands.Illegal reason)) old new is = ap flights_of is
-stopped_at memory (Some (stands.Command command)) old new stops = ap flights_of stops.2
-
-stopped : (processing : Bool) (memory : List (List ℕ)) (old new : Iommu) → StopsFetching processing memory old new → flights_of new ≡ flights_of old
-stopped false memory old new same = ap flights_of same
-stopped true memory old new stops = stopped_at memory (head_entry memory (registers_of old)) old new stops
-
-fetched : (memory memory' : List (List ℕ)) (old new : Iommu) (answer : Fetched) → FetchesByAnswer memory old answer memory' new → flights_of new ≡ flights_of old
-fetched memory memory' old new (Did command) fetches = fetches.5.flights
-fetched memory memory' old new Waiting fetches = ap flights_of fetches.3
-fetched memory memory' old new Empty fetches = ap flights_of fetches.3
-fetched memory memory' old new Stopped fetches = stopped (is_processing_commands (registers_of old)) memory old new fetches.0
-
-timed_out : (old new : Iommu) (answer : Bool) → TimesFenceOut old answer new → flights_of new ≡ flights_of old
-timed_out old new true call = ap flights_of call.1
-timed_out old new false call = ap flights_of call.1
 
 -- A REQUEST is accepted, or nothing is
 answered : (Served : Result Cached WalkFault → Translations → Type 0) (transaction : Transaction) (memory memory' : List (List ℕ)) (old new : Iommu) (id : ℕ) (access : Access) (given : Reply)
@@ -181,33 +123,10 @@ stepped old new id given (inr (step, is, inl unknown)) = same_parts old new unkn
 stepped old new id given (inr (step, is, inr (inl unable))) = same_parts old new unable.same
 stepped old new id given (inr (step, is, inr (inr rests))) = same_parts old new rests.2
 
--- A MESSAGE arrives
-question : (old new : Parts) (device page : ℕ) (answer : Translation) → AnswersQuestion old.memory old.iommu device page answer new.memory new.iommu → flights_of new.iommu ≡ flights_of old.iommu
-question old new device page (translation.Page frame rights) answers = (ap (λ parts. parts.flights) answers.0.rest)
-question old new device page (translation.Refused cause) refuses = (ap (λ parts. parts.flights) refuses.rest)
-
-arrived : (message : Message) (old new : Parts) (device : ℕ) (others : List OnLink) (given : Outcome) → Arrives message old device others given new → Keeps old new
-arrived (sent.Ask epoch page) old new device others given answers =
-    same_numbers (flights_of old.iommu) (flights_of new.iommu) (question old new device page answers.answer answers.call)
-arrived (sent.Answer epoch page answer) old new device others given takes = same_iommu old new (ap (λ (p : Parts). p.iommu) takes.rest)
-arrived (sent.InvReq serial range) old new device others given obeys = same_iommu old new (ap (λ (p : Parts). p.iommu) obeys.rest)
-arrived (sent.InvDone serial) old new device others given hears = same_numbers (flights_of old.iommu) (flights_of new.iommu) (ap flights_of hears.call.left)
-
-delivered : (on : Option OnLink) (old new : Parts) (others : List OnLink) (given : Outcome) → ArrivesIfAny on old others given new → Keeps old new
-delivered None old new others given none = same_parts old new none.1
-delivered (Some on) old new others given arrives = arrived on.message old new on.device others given arrives
-
 -- A DEVICE IS PLUGGED IN
 added : (answer : Result (Unit {0}) Refusal) (old new : Iommu) (id : ℕ) → AddsRow answer old id new → KeepsAllNumbers (flights_of old) (flights_of new)
 added (Ok done) old new id adds = keeps_added (flights_of old) (flights_of new) id adds.flights.2
 added (Err why) old new id same = same_numbers (flights_of old) (flights_of new) (ap flights_of same)
-
--- what the events of block devices leave of the IOMMU
-inserted : (disks : List ℕ) (old new : Parts) (id disk : ℕ) (given : Outcome) → InsertsMedium disks old id disk given new → Keeps old new
-inserted disks old new id disk given (inl unknown) = same_parts old new unknown.same
-inserted disks old new id disk given (inr (inl unable)) = same_parts old new unable.same
-inserted disks old new id disk given (inr (inr (device, is, inl puts))) = same_iommu old new (ap (λ (p : Parts). p.iommu) puts.2)
-inserted disks old new id disk given (inr (inr (device, is, inr refused))) = same_parts old new refused.2
 
 -- THE EVENT is no commit
 abbrev pub MakesNothing : Event → Type 0
@@ -217,26 +136,6 @@ MakesNothing event = Unit {0}
 pub keeps_all : (disks : List ℕ) (old new : Parts) (event : Event) (given : Outcome) → MakesNothing event → Effect disks old event given new → Keeps old new
 keeps_all disks old new (events.Plug id what) given none (inl lacks) = same_parts old new lacks.same
 keeps_all disks old new (events.Plug id what) given none (inr plugs) = added plugs.answer old.iommu new.iommu id plugs.row
-keeps_all disks old new (events.Medium id disk) given none effect = inserted disks old new id disk given effect
-keeps_all disks old new (events.Attach id mode ats) given none effect = same_iommu old new effect.iommu
-keeps_all disks old new (events.Grant id page frame rights) given none effect = same_iommu old new effect.iommu
-keeps_all disks old new (events.Release id page) given none effect =
-    same_numbers (flights_of old.iommu) (flights_of new.iommu) (released old.driver new.driver old.memory new.memory old.iommu new.iommu id page effect.answer effect.call)
-keeps_all disks old new (events.Detach id) given none effect =
-    same_numbers (flights_of old.iommu) (flights_of new.iommu) (detached old.driver new.driver old.memory new.memory old.iommu new.iommu id effect.answer effect.call.effect)
-keeps_all disks old new (events.Quarantine id) given none effect =
-    same_numbers (flights_of old.iommu) (flights_of new.iommu) (quarantined old.driver new.driver old.memory new.memory old.iommu new.iommu id effect.answer effect.call)
-keeps_all disks old new (events.Revive id) given none effect = same_iommu old new effect.iommu
-keeps_all disks old new events.Restart given none effect =
-    same_numbers (flights_of old.iommu) (flights_of new.iommu) (restarted old.driver new.driver old.memory new.memory old.iommu new.iommu effect.answer effect.call)
-keeps_all disks old new events.Fetch given none effect =
-    same_numbers (flights_of old.iommu) (flights_of new.iommu)
-    (fetched old.memory new.memory old.iommu new.iommu effect.answer (by_answer old.memory new.memory old.iommu new.iommu effect.answer effect.call))
-keeps_all disks old new events.Timeout given none effect =
-    same_numbers (flights_of old.iommu) (flights_of new.iommu) (timed_out old.iommu new.iommu effect.answer effect.call)
-keeps_all disks old new events.Poll given none effect = same_iommu old new effect.iommu
-keeps_all disks old new events.Faults given none effect =
-    same_numbers (flights_of old.iommu) (flights_of new.iommu) (reported old.driver old.memory old.iommu new.iommu effect.answer effect.call)
 keeps_all disks old new (events.Read id address len) given none effect = asked _ old new id (read_of address len) given effect
 keeps_all disks old new (events.Write id address bytes) given none effect = asked _ old new id (write_of address bytes) given effect
 keeps_all disks old new (events.Commit id) given none effect = absurd none
@@ -244,25 +143,6 @@ keeps_all disks old new (events.ReadTranslated id address len) given none effect
 keeps_all disks old new (events.WriteTranslated id address bytes) given none effect = translated old new id (write_of address bytes) given effect
 keeps_all disks old new (events.ReadThroughCache id address len) given none effect = through_cache _ old new id (read_of address len) given effect
 keeps_all disks old new (events.WriteThroughCache id address bytes) given none effect = through_cache _ old new id (write_of address bytes) given effect
-keeps_all disks old new (events.Ask id page) given none (inl unknown) = same_parts old new unknown.same
-keeps_all disks old new (events.Ask id page) given none (inr (inl unable)) = same_parts old new unable.same
-keeps_all disks old new (events.Ask id page) given none (inr (inr sends)) = same_iommu old new (ap (λ (p : Parts). p.iommu) sends.1.sent)
-keeps_all disks old new (events.Forge id serial) given none (inl unknown) = same_parts old new unknown.same
-keeps_all disks old new (events.Forge id serial) given none (inr (inl unable)) = same_parts old new unable.same
-keeps_all disks old new (events.Forge id serial) given none (inr (inr sends)) = same_iommu old new (ap (λ (p : Parts). p.iommu) sends.1.sent)
-keeps_all disks old new (events.Deliver place) given none effect = delivered (slice_get old.fabric place) old new (remove old.fabric place) given effect
-keeps_all disks old new (events.Drop place) given none effect = same_iommu old new (ap (λ (p : Parts). p.iommu) effect.dropped)
-keeps_all disks old new (events.Repeat place) given none effect = same_iommu old new (ap (λ (p : Parts). p.iommu) effect.repeated)
-keeps_all disks old new (events.Reset id) given none (inl unknown) = same_parts old new unknown.same
-keeps_all disks old new (events.Reset id) given none (inr resets) = same_iommu old new (ap (λ (p : Parts). p.iommu) resets.2)
-keeps_all disks old new (events.Queue id size descriptors available used) given none (inl unknown) = same_parts old new unknown.same
-keeps_all disks old new (events.Queue id size descriptors available used) given none (inr (inl unable)) = same_parts old new unable.same
-keeps_all disks old new (events.Queue id size descriptors available used) given none (inr (inr (able, inl sets))) = same_iommu old new (ap (λ (p : Parts). p.iommu) sets.2)
-keeps_all disks old new (events.Queue id size descriptors available used) given none (inr (inr (able, inr refused))) = same_parts old new refused.2
 keeps_all disks old new (events.Step id) given none effect = stepped old new id given effect
-keeps_all disks old new (events.Status id) given none (status, inl unknown) = same_parts old new unknown.same
-keeps_all disks old new (events.Status id) given none (status, inr (inl unable)) = same_parts old new unable.same
-keeps_all disks old new (events.Status id) given none (status, inr (inr tells)) = same_parts old new tells.2
-keeps_all disks old new (events.Poke address bytes) given none effect = same_iommu old new effect.iommu
-keeps_all disks old new (events.Peek address len) given none effect = same_parts old new effect.1
-keeps_all disks old new (events.Free frame) given none effect = same_parts old new effect.1
+keeps_all disks old new event given none effect =
+    same_numbers (flights_of old.iommu) (flights_of new.iommu) (ap (λ kept. kept.0) (flights_left disks old new event given tt effect))

@@ -3,6 +3,7 @@ pub mod OfHardware
 pub mod HappensLemmas
 pub mod NumberLemmas
 pub mod OldestLemmas
+pub mod IommuStays
 pub mod FlightEvents
 pub mod BegunLemmas
 pub mod NeverRefused

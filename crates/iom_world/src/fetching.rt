@@ -27,8 +27,8 @@ fn name_of(command: Command) -> CommandName
     }
 }
 
-/// What the IOMMU answers, with its command by name.
-fn named(answer: iom_iommu::Fetched) -> Fetched
+/// What the IOMMU answers to a fetch, with its command by name (IOMMU specification, section 3.1).
+pub fn named(answer: iom_iommu::Fetched) -> Fetched
     ensures { result ≡ fetch_named answer }
 {
     match answer {

@@ -31,4 +31,5 @@ mod stepping;
 mod through_cache;
 mod world;
 
+pub use fetching::named;
 pub use world::World;

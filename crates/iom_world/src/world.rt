@@ -16,12 +16,12 @@ use iom_virtio_blk::Disk;
 pub struct World<D: Disk> {
     /// Memory, the IOMMU, the devices, the messages between them, the block devices themselves; and how many events there
     /// were.
-    pub(crate) hardware: Hardware<D>,
-    pub(crate) driver: Driver,
+    pub hardware: Hardware<D>,
+    pub driver: Driver,
     /// The fault record that the driver took last.
-    pub(crate) record: FaultRecord,
+    pub record: FaultRecord,
     /// The access that the last event made, if it made one.
-    pub(crate) made: Option<MadeAt>,
+    pub made: Option<MadeAt>,
     ghost invariants: { WorldInvariant hardware.board.memory hardware.board.iommu driver hardware.board.devices.items hardware.board.fabric hardware.board.events } by { world_invariant_prop hardware.board.memory hardware.board.iommu driver hardware.board.devices.items hardware.board.fabric hardware.board.events },
     ghost agrees: { AgreesWith hardware.board.devices.items hardware.board.disks.items hardware.blocks.items hardware.at_hand.items } by { agrees_prop hardware.board.devices.items hardware.board.disks.items hardware.blocks.items hardware.at_hand.items },
     ghost room: { device_limit ≤ vec_capacity hardware.blocks },

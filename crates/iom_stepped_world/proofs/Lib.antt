@@ -1,0 +1,13 @@
+pub mod Around
+pub mod BegunLemmas
+pub mod LoadedLemmas
+pub mod FramesStay
+pub mod StepLemmas
+pub mod PassingLemmas
+pub mod OtherLemmas
+pub mod BesideEvents
+pub mod PluggedLemmas
+pub mod After
+pub mod BesideWorld
+pub mod BesidePlugged
+pub mod HappensLemmas

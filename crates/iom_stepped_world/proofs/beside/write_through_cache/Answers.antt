@@ -1,0 +1,6 @@
+use Rattle.std.proofs.Common.{refl}
+use Rattle.iom_machine.specs.declared.event.Event.TheVariants as events
+use Rattle.iom_stepped_world.proofs.beside.write_through_cache.Goals as goal
+
+pub returns-clause-does : goal.returns-clause-does
+returns-clause-does g c = c.through_cache.ensures.does (events.WriteThroughCache c.args.id c.args.address c.args.bytes.now) (refl, refl)
