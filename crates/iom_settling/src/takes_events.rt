@@ -10,6 +10,7 @@ ghost use Rattle.iom_world_effects.specs.Parts.{Parts};
 ghost use Rattle.iom_world_effects.specs.Invariant.{PartsInvariant};
 ghost use Rattle.iom_world_effects.specs.Unchanged.{KeepsCommands};
 ghost use Rattle.iom_world_effects.proofs.DriverLemmas.{DriverInvariant};
+ghost use Rattle.iom_settling.specs.Kinds.{IsSettling};
 ghost use Rattle.iom_settling.specs.Stages.{brief};
 
 use crate::reply::FetchReply;
@@ -48,9 +49,10 @@ pub trait TakesEvents {
     fn has_used_up(&self) -> bool
         ensures { result ≡ nat_le 4294967295 (last_fence (parts self.now).driver) };
 
-    /// One event.
+    /// One event, of a kind that settling has.
     fn take(&mut self, event: &Event) -> FetchReply
         requires count { counted self.old + 1 < 2 ^ 64 }
+        requires settling { IsSettling event.now }
         ensures { (reply : Outcome) × happens self.old event.now reply self.new × (result ≡ brief reply) };
 
     /// An event does what the call behind it says.

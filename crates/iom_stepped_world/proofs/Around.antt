@@ -1,6 +1,9 @@
 -- What is known of a world before an event and after it: each keeps its facts, and the event was counted.
-use Rattle.std.proofs.Common.{◌≡◌, ◌+◌, ◌∙◌, ℕ, List, length, ap, inl, refl, sym}
+use Rattle.std.proofs.Common.{◌≡◌, ◌+◌, ◌∙◌, ℕ, List, length, ap, inl, refl, subst, sym}
+use Rattle.std.proofs.Math.Logic.{∥∥₁_elim}
 use Rattle.iom_base.specs.declared.refusal.Refusal.{Refusal}
+use Rattle.iom_driver.specs.StateOf.{state_of}
+use Rattle.iom_driver.specs.declared.driver.Driver.{Driver}
 use Rattle.iom_iommu.specs.Parts.{frames_of}
 use Rattle.iom_machine.specs.declared.event.Event.{Event}
 use Rattle.iom_machine.specs.declared.event.Event.TheVariants as events
@@ -17,6 +20,7 @@ use Rattle.iom_walks.specs.Walks.{WalkRow, row_of}
 use Rattle.iom_world.specs.Blocks.{IsNoRefusal}
 use Rattle.iom_world_effects.proofs.CallRefused.{same_parts as all_same}
 use Rattle.iom_world_effects.specs.Invariant.{PartsInvariant}
+use Rattle.iom_world_effects.specs.InvariantIsFact.{world_invariant_prop}
 use Rattle.iom_world_effects.specs.Parts.{Parts}
 use Rattle.iom_world_effects.specs.Unchanged.{SameIfRefused}
 use Rattle.iom_world_walks.specs.Events.{GivesUp}
@@ -78,3 +82,9 @@ pub stays_refused : (old new : SteppedShown) (answered : Outcome) → SameIfRefu
     → StaysIfRefused (Answer answered) old new
 stays_refused old new (outcome.Refused why) same rows = (same why refl, rows why refl)
 stays_refused old new _ same rows = tt
+
+-- what is merely so of the parts is so: it is a fact
+pub merely_held : (driver : Driver) (parts : Parts) (count : ℕ) → parts.driver ≡ state_of driver → ∥ PartsInvariant parts count ∥₁ → PartsInvariant parts count
+merely_held driver parts count is held =
+    ∥∥₁_elim held
+    (subst (λ d. IsProp (PartsInvariant (record parts { driver = d }) count)) (sym is) (world_invariant_prop parts.memory parts.iommu driver parts.devices parts.fabric count)) (λ so. so)

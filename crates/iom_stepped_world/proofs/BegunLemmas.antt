@@ -1,5 +1,6 @@
 -- A request that begins does what its event is to do.
 use Rattle.std.proofs.Common.{◌≡◌, ◌+◌, ◌∙◌, ◌^◌, ◌<◌, inl, inr, ℕ, Bool, true, List, OnErr, Result, Err, ap, refl, sym, subst}
+use Rattle.std.proofs.Math.Logic.{∥∥₁_map}
 use Rattle.iom_base.specs.DeviceKinds.{sends_untranslated}
 use Rattle.iom_base.specs.declared.access.Access.{Access}
 use Rattle.iom_base.specs.declared.device_kind.DeviceKind.{DeviceKind}
@@ -27,7 +28,7 @@ use Rattle.iom_stepped_world.specs.Happens.{Does, StaysIfRefused}
 use Rattle.iom_stepped_world.specs.Inside.{EffectInside}
 use Rattle.iom_stepped_world.specs.Shown.{SteppedShown}
 use Rattle.iom_stepped_world.specs.Told.{told_begun}
-use Rattle.iom_stepped_world.proofs.Around.{Around, disks_left, leads, nothing_changed, rows_stay}
+use Rattle.iom_stepped_world.proofs.Around.{Around, disks_left, leads, merely_held, nothing_changed, rows_stay}
 use Rattle.iom_walks.specs.Walks.{WalkRow}
 use Rattle.iom_world.specs.OnHardware.{hardware_of}
 use Rattle.iom_world.proofs.InParts.{same_parts}
@@ -40,10 +41,10 @@ use Rattle.iom_world_walks.specs.Invariant.{SteppedInvariant}
 use Rattle.iom_world_walks.specs.Laws.{BeginsKeepInvariant}
 
 -- ALL STAYS TRUE of the parts
-pub begun_keeps : (can : DeviceKind → Bool) → BeginsKeepInvariant → WalksKeepFacts → (driver : Driver) (old new : Parts) (events id : ℕ) (rows new_rows : List WalkRow) (access : Access) (answer : Result Begun Refusal)
+begun_so_keeps : (can : DeviceKind → Bool) → BeginsKeepInvariant → WalksKeepFacts → (driver : Driver) (old new : Parts) (events id : ℕ) (rows new_rows : List WalkRow) (access : Access) (answer : Result Begun Refusal)
     → old.driver ≡ state_of driver → SteppedInvariant old rows events → new.driver ≡ old.driver → access.address < 2 ^ 64
     → BeginsAccessBeside can (hardware_of old) rows id access answer (hardware_of new) new_rows → PartsInvariant new (events + 1)
-begun_keeps can begins facts driver old new events id rows new_rows access answer is invariant stays fits so = elim so.by_device [
+begun_so_keeps can begins facts driver old new events id rows new_rows access answer is invariant stays fits so = elim so.by_device [
   | inl none ↦ same (same_parts old new none.same stays)
   | inr (inl wrong) ↦ same (same_parts old new wrong.same stays)
   | inr (inr does) ↦
@@ -57,6 +58,13 @@ begun_keeps can begins facts driver old new events id rows new_rows access answe
 
     same : new ≡ old → PartsInvariant new (events + 1)
     same is = subst (λ p. PartsInvariant p (events + 1)) (sym is) (facts old rows (events + 1) counted.0)
+
+pub begun_keeps : (can : DeviceKind → Bool) → BeginsKeepInvariant → WalksKeepFacts → (driver : Driver) (old new : Parts) (events id : ℕ) (rows new_rows : List WalkRow) (access : Access) (answer : Result Begun Refusal)
+    → old.driver ≡ state_of driver → ∥ SteppedInvariant old rows events ∥₁ → new.driver ≡ old.driver → access.address < 2 ^ 64
+    → BeginsAccessBeside can (hardware_of old) rows id access answer (hardware_of new) new_rows → PartsInvariant new (events + 1)
+begun_keeps can begins facts driver old new events id rows new_rows access answer is invariant stays fits so =
+    merely_held driver new (events + 1) (stays ∙ is)
+    (∥∥₁_map invariant (λ it. begun_so_keeps can begins facts driver old new events id rows new_rows access answer is it stays fits so))
 
 -- the IOMMU is for as many frames
 frames_begun : (memory now : List (List ℕ)) (old new : Iommu) (rows new_rows : List WalkRow) (id : ℕ) (access : Access) (given : Begun) → BeginsRequest memory old rows id access given now new new_rows

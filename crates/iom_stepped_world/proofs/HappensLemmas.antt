@@ -1,5 +1,6 @@
 -- What an event does is a step of the ledger machine with walks, and all stays true.
 use Rattle.std.proofs.Common.{◌≡◌, ℕ, List, [], None, Option, Some, IsSome, refl, subst, sym}
+use Rattle.std.proofs.Math.Logic.{∥∥₁_elim, ∥∥₁_map, ∥∥₁_prop}
 use Rattle.iom_base.specs.DeviceKinds.{is_any_kind}
 use Rattle.iom_board.specs.BoardParts.{board_parts}
 use Rattle.iom_board.specs.Permits.{IsPermitted}
@@ -17,6 +18,7 @@ use Rattle.iom_stepped_world.specs.Others.{PagesFit}
 use Rattle.iom_stepped_world.specs.Shown.{moment, stepped_of}
 use Rattle.iom_stepped_world.specs.Sound.{AreBesideWorld, AreSound}
 use Rattle.iom_stepped_world.proofs.BesideEvents.{device_there}
+use Rattle.iom_stepped_world.proofs.LoadsMay.{loads_may}
 use Rattle.iom_stepped_world.proofs.StepLemmas.{row_with}
 use Rattle.iom_virtio_blk.specs.DiskStates.{DiskState}
 use Rattle.iom_virtio_blk.specs.declared.disk.Disk.{Ghosts}
@@ -25,6 +27,7 @@ use Rattle.iom_walks.specs.Walks.{UnderWay, WalkRow, under_way_of}
 use Rattle.iom_world.specs.Shown.{inside_of, parts_of}
 use Rattle.iom_world.specs.declared.world.World.{World}
 use Rattle.iom_world_walks.specs.Events.{NamesFit}
+use Rattle.iom_world_walks.specs.Invariant.{SteppedInvariant}
 
 -- what an event names is in range
 pub names_fit : (event : Event) → EventFits (Whole event) → PagesFit event → NamesFit event
@@ -55,24 +58,27 @@ module _ {D : Type 0} {d : Ghosts D} (shown : D → DiskState) where
   module _ (keeps : EventsKeepFacts) (steps : EventsAreSteps) (old new : World D d) (rows new_rows : List WalkRow) (event : SteppedEvent) (outcome : SteppedOutcome) (walks : AreWalks rows)
       (walked : AreWalks new_rows) (sound : AreSound shown old rows) (names : EventNamesFit event) (does : Does (stepped_of shown old rows) event outcome (stepped_of shown new new_rows))
       (beside : AreBesideWorld shown new new_rows) where
-    before : IsSound (moment (stepped_of shown old rows))
-    before = record { code = of_code old rows walks sound.beside; invariants = sound.invariant }
+    module _ (invariant : SteppedInvariant (parts_of old) rows old.hardware.board.events) where
+      before : IsSound (moment (stepped_of shown old rows))
+      before = record { code = of_code old rows walks sound.beside; invariants = invariant }
 
-    after : IsSound (moment (stepped_of shown new new_rows))
-    after = keeps (moment (stepped_of shown old rows)) (moment (stepped_of shown new new_rows)) event outcome before (of_code new new_rows walked beside) names does.leads
+      after : IsSound (moment (stepped_of shown new new_rows))
+      after = keeps (moment (stepped_of shown old rows)) (moment (stepped_of shown new new_rows)) event outcome before (of_code new new_rows walked beside) names does.leads
 
     pub happened : SteppedHappens (stepped_of shown old rows) event outcome (stepped_of shown new new_rows)
     happened = record {
-      step = λ state shows. steps (moment (stepped_of shown old rows)) (moment (stepped_of shown new new_rows)) event outcome state before after does.leads shows;
+      step = λ state shows. ∥∥₁_map sound.invariant (λ it.
+          steps (moment (stepped_of shown old rows)) (moment (stepped_of shown new new_rows)) event outcome state (before it) (after it) does.leads shows);
+      guest = λ state shows. ∥∥₁_elim sound.invariant ∥∥₁_prop (loads_may (parts_of old) old.hardware.board.events state.ledger shows.0.ledger rows);
       does = does;
     }
 
     pub sound_still : AreSound shown new new_rows
-    sound_still = record { invariant = after.invariants; beside = beside }
+    sound_still = record { invariant = ∥∥₁_map sound.invariant (λ it. (after it).invariants); beside = beside }
 
   -- AT POWER-ON
   pub sound_at_first : IdleWorldsAreSound → NoneIsBeside → (world : World D d) → (parts_of world).devices ≡ [] → AreSound shown world []
   sound_at_first idle none world empty = record {
-    invariant = idle (parts_of world) [] world.hardware.board.events world.invariants (λ row there. absurd (in_none row there));
+    invariant = ∣ idle (parts_of world) [] world.hardware.board.events world.invariants (λ row there. absurd (in_none row there)) ∣₁;
     beside = none (board_parts world.hardware.board) (inside_of shown world).blocks empty;
   }

@@ -10,4 +10,7 @@ pub mod PluggedLemmas
 pub mod After
 pub mod BesideWorld
 pub mod BesidePlugged
+pub mod LoadsMay
 pub mod HappensLemmas
+pub mod RunLemmas
+pub mod SettlingLemmas

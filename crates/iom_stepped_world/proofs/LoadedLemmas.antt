@@ -1,5 +1,6 @@
 -- A load does what its event is to do.
-use Rattle.std.proofs.Common.{◌≡◌, ◌+◌, inl, inr, ℕ, Bool, true, false, List, Result, Err, OnErr, ap, refl, sym, subst}
+use Rattle.std.proofs.Common.{◌≡◌, ◌+◌, ◌∙◌, inl, inr, ℕ, Bool, true, false, List, Result, Err, OnErr, ap, refl, sym, subst}
+use Rattle.std.proofs.Math.Logic.{∥∥₁_map}
 use Rattle.iom_base.specs.declared.refusal.Refusal.{Refusal}
 use Rattle.iom_base.specs.declared.refusal.Refusal.TheVariants.{NoSuchDevice}
 use Rattle.iom_driver.specs.StateOf.{state_of}
@@ -20,7 +21,7 @@ use Rattle.iom_stepped_refinement.proofs.FactsStay.{now_counted}
 use Rattle.iom_stepped_world.specs.Happens.{Does, StaysIfRefused}
 use Rattle.iom_stepped_world.specs.Shown.{SteppedShown}
 use Rattle.iom_stepped_world.specs.Told.{told_load}
-use Rattle.iom_stepped_world.proofs.Around.{Around, leads, nothing_changed}
+use Rattle.iom_stepped_world.proofs.Around.{Around, leads, merely_held, nothing_changed}
 use Rattle.iom_walks.specs.Invariant.{AreWalks}
 use Rattle.iom_walks.specs.Walks.{WalkRow}
 use Rattle.iom_world.specs.OnHardware.{hardware_of}
@@ -36,10 +37,10 @@ not_wrong : {X : Type 0} → ◌≡◌ {A = Bool} true false → X
 not_wrong is = cc
 
 -- ALL STAYS TRUE of the parts
-pub loaded_keeps : LoadsKeepInvariant → WalksKeepFacts → (driver : Driver) (old new : Parts) (events id : ℕ) (rows new_rows : List WalkRow) (answer : Result iommu.Load Refusal)
+loaded_so_keeps : LoadsKeepInvariant → WalksKeepFacts → (driver : Driver) (old new : Parts) (events id : ℕ) (rows new_rows : List WalkRow) (answer : Result iommu.Load Refusal)
     → old.driver ≡ state_of driver → AreWalks rows → SteppedInvariant old rows events → new.driver ≡ old.driver
     → MakesLoad (hardware_of old) rows id answer (hardware_of new) new_rows → PartsInvariant new (events + 1)
-loaded_keeps loads facts driver old new events id rows new_rows answer is walks invariant stays so = elim so.by_device [
+loaded_so_keeps loads facts driver old new events id rows new_rows answer is walks invariant stays so = elim so.by_device [
   | inl none ↦ subst (λ p. PartsInvariant p (events + 1)) (sym (same_parts old new none.same stays)) (facts old rows (events + 1) counted.0)
   | inr (inl wrong) ↦ not_wrong wrong.cannot
   | inr (inr does) ↦
@@ -50,6 +51,12 @@ loaded_keeps loads facts driver old new events id rows new_rows answer is walks 
   where
     counted : SteppedInvariant old rows (events + 1) × IsCounted old (events + 1)
     counted = now_counted old rows events invariant
+
+pub loaded_keeps : LoadsKeepInvariant → WalksKeepFacts → (driver : Driver) (old new : Parts) (events id : ℕ) (rows new_rows : List WalkRow) (answer : Result iommu.Load Refusal)
+    → old.driver ≡ state_of driver → AreWalks rows → ∥ SteppedInvariant old rows events ∥₁ → new.driver ≡ old.driver
+    → MakesLoad (hardware_of old) rows id answer (hardware_of new) new_rows → PartsInvariant new (events + 1)
+loaded_keeps loads facts driver old new events id rows new_rows answer is walks invariant stays so =
+    merely_held driver new (events + 1) (stays ∙ is) (∥∥₁_map invariant (λ it. loaded_so_keeps loads facts driver old new events id rows new_rows answer is walks it stays so))
 
 -- the IOMMU is for as many frames
 frames_loaded : (memory now : List (List ℕ)) (old new : Iommu) (rows new_rows : List WalkRow) (id : ℕ) (given : iommu.Load) → LoadsNext memory old rows id given now new new_rows → frames_of new ≡ frames_of old

@@ -37,7 +37,7 @@ use Rattle.iom_stepped_world.specs.Told.{told_step}
 use Rattle.iom_stepped_world.proofs.Around.{Around, disks_left, leads, not_refused, nothing_changed, rows_stay}
 use Rattle.iom_stepped_world.proofs.BegunLemmas.{begun_frames, begun_keeps}
 use Rattle.iom_stepped_world.proofs.FramesStay.{same_frames, step_frames}
-use Rattle.iom_stepped_refinement.proofs.FactsStay.{now_counted}
+use Rattle.iom_world_refinement.proofs.EventLemmas.{below_counted, sound_counted}
 use Rattle.std.proofs.lemmas.Bool.{false≢true}
 use Rattle.iom_base.specs.declared.refusal.Refusal.TheVariants.{NoSuchDevice, WrongKind}
 use Rattle.iom_iommu.specs.Stepped.{BeginsRequest}
@@ -56,7 +56,6 @@ use Rattle.iom_world_effects.proofs.DriverLemmas.{DriverInvariant}
 use Rattle.iom_world_effects.specs.Below.{LawsBelow}
 use Rattle.iom_world_effects.specs.BlockDevices.{IsRest, TakesBlockStep}
 use Rattle.iom_world_effects.specs.Invariant.{PartsInvariant}
-use Rattle.iom_world_walks.specs.Events.{IsCounted}
 use Rattle.iom_world_walks.specs.Invariant.{SteppedInvariant}
 use Rattle.iom_world_walks.specs.Laws.{BeginsKeepInvariant}
 
@@ -74,7 +73,8 @@ told_took (Ok taken) = refl
 told_took (Err why) = refl
 
 module _ (laws : LawsBelow) (begins : BeginsKeepInvariant) (facts : WalksKeepFacts) (driver : Driver) (old new : SteppedShown) (id : ℕ) (is : old.world.parts.driver ≡ state_of driver)
-    (own : DriverInvariant old.world.parts.driver) (invariant : SteppedInvariant old.world.parts old.rows old.world.events)
+    (own : DriverInvariant old.world.parts.driver) (held : PartsInvariant old.world.parts old.world.events)
+    (invariant : ∥ SteppedInvariant old.world.parts old.rows old.world.events ∥₁)
     (beside : AreBesideHardware (hardware_of old.world.parts) old.world.inside.blocks old.rows) (stays : new.world.parts.driver ≡ old.world.parts.driver)
     (there : IsAble is_block_device old.world.parts.devices id → block_with old.world.inside.blocks id ≡ None → ⊥) where
   abbrev devices : List Plugged
@@ -88,11 +88,11 @@ module _ (laws : LawsBelow) (begins : BeginsKeepInvariant) (facts : WalksKeepFac
   All answer =
       Effect (told_step answer) × StaysIfRefused (told_step answer) old new × PartsInvariant new.world.parts (old.world.events + 1) × (frames_of new.world.parts.iommu ≡ frames_of old.world.parts.iommu)
 
-  counted : SteppedInvariant old.world.parts old.rows (old.world.events + 1) × IsCounted old.world.parts (old.world.events + 1)
-  counted = now_counted old.world.parts old.rows old.world.events invariant
+  counted : PartsInvariant old.world.parts (old.world.events + 1)
+  counted = sound_counted old.world.parts old.world.events held
 
   same_keeps : new.world.parts ≡ old.world.parts → PartsInvariant new.world.parts (old.world.events + 1)
-  same_keeps same = subst (λ p. PartsInvariant p (old.world.events + 1)) (sym same) (facts old.world.parts old.rows (old.world.events + 1) counted.0)
+  same_keeps same = subst (λ p. PartsInvariant p (old.world.events + 1)) (sym same) counted
 
   -- A STEP THAT IS ONE EVENT
   whole : (answer : Result StepOutcome Refusal) → walks_itself (kind_in devices id) ≡ false
@@ -111,8 +111,8 @@ module _ (laws : LawsBelow) (begins : BeginsKeepInvariant) (facts : WalksKeepFac
           no_walk = λ able. absurd (not_able able.0 able.2 (subst (λ k. walks_itself k ≡ false) able.1 not_itself));
         })),
         stays_whole (block_with old.world.inside.blocks id) both.1.0,
-        keeps_stepped laws driver old.world.parts new.world.parts (old.world.events + 1) id (outcome_unless outcome_of_step so.given) (facts old.world.parts old.rows (old.world.events + 1) counted.0) own is
-            counted.1.accepted both.0,
+        keeps_stepped laws driver old.world.parts new.world.parts (old.world.events + 1) id (outcome_unless outcome_of_step so.given) counted own is
+            (below_counted old.world.parts old.world.events held) both.0,
         step_frames old.world.parts new.world.parts id (outcome_unless outcome_of_step so.given) both.0,
       ))
     where

@@ -1,7 +1,11 @@
 pub mod Shown
 pub mod Sound
+pub mod SoundIsFact
 pub mod Asked
 pub mod Told
 pub mod Inside
+pub mod Loads
 pub mod Happens
 pub mod Others
+pub mod Runs
+pub mod Settling

@@ -13,7 +13,8 @@ use Rattle.iom_world_walks.specs.Invariant.{SteppedInvariant}
 abbrev pub AreBesideWorld : {D : Type 0} {d : Ghosts D} → (D → DiskState) → World D d → List WalkRow → Type 0
 AreBesideWorld shown world rows = AreBesideHardware (board_parts world.hardware.board) (inside_of shown world).blocks rows
 
--- and each stands in the directory, or in tables that the driver wrote for its device, as memory is now
+-- and each stands in the directory, or in tables that the driver wrote for its device, as memory is now: there are walks of which the facts on copies hold, and each
+-- request stands as one of them
 pub record AreSound {D : Type 0} {d : Ghosts D} (shown : D → DiskState) (world : World D d) (rows : List WalkRow) : Type 0 where
-  pub invariant : SteppedInvariant (parts_of world) rows world.hardware.board.events
+  pub invariant : ∥ SteppedInvariant (parts_of world) rows world.hardware.board.events ∥₁
   pub beside : AreBesideWorld shown world rows

@@ -8,6 +8,8 @@ use Rattle.iom_stepped_hardware.specs.declared.steps.StepOutcome.{StepOutcome}
 use Rattle.iom_stepped_hardware.specs.declared.steps.StepOutcome.TheVariants as step
 use Rattle.iom_stepped_machine.specs.Machine as machine
 use Rattle.iom_stepped_refinement.specs.Shows.{told_at_begin, told_at_load}
+use Rattle.iom_stepped_world.specs.declared.event.SteppedEvent as events
+use Rattle.iom_stepped_world.specs.declared.event.SteppedEvent.TheVariants as event
 use Rattle.iom_stepped_world.specs.declared.outcome.SteppedOutcome.{SteppedOutcome}
 use Rattle.iom_stepped_world.specs.declared.outcome.SteppedOutcome.TheVariants as outcome
 use Rattle.iom_world.specs.OnHardware.{outcome_of_step}
@@ -35,3 +37,8 @@ abbrev pub told_step : Result StepOutcome Refusal → machine.SteppedOutcome
 told_step (Ok step.Walking) = machine.Walking
 told_step (Ok (step.Took taken)) = machine.Answer (outcome_of_step taken)
 told_step (Err why) = machine.Answer (Refused why)
+
+-- an event in the ledger machine's words
+abbrev pub said : events.SteppedEvent → machine.SteppedEvent
+said (event.Event its) = machine.Whole its
+said (event.Load id) = machine.Load id

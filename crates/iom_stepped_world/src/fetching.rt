@@ -5,7 +5,7 @@ ghost use Rattle.iom_machine.specs.declared.outcome.Outcome.TheVariants as outco
 ghost use Rattle.iom_stepped_machine.specs.Machine.{Answer, Whole};
 ghost use Rattle.iom_stepped_world.specs.Happens.{Does};
 ghost use Rattle.iom_stepped_world.specs.Shown.{stepped_of};
-ghost use Rattle.iom_stepped_world.specs.Sound.{AreBesideWorld, AreSound};
+ghost use Rattle.iom_stepped_world.specs.Sound.{AreBesideWorld};
 ghost use Rattle.iom_world_effects.specs.Effect.{fetch_named};
 
 use iom_machine::Outcome;
@@ -18,7 +18,7 @@ use iom_world_effects::laws_below;
 /// The IOMMU takes the next command. After an IOTINVAL or an IODIR.INVAL_DDT, whatever it covers, all requests that are under
 /// way begin anew, and look in no cache (IOMMU specification, section 3.1).
 pub(crate) fn fetch<D: Disk>(world: &mut World<D>, walks: &mut Walks) -> Outcome
-    requires sound { AreSound D.shown world.old walks.old }
+    requires beside { AreBesideWorld D.shown world.old walks.old }
     requires count { world.old.hardware.board.events + 1 < 2 ^ 64 }
     ensures does { Does (stepped_of D.shown world.old walks.old) (Whole events.Fetch) (Answer result) (stepped_of D.shown world.new walks.new) }
     ensures beside { AreBesideWorld D.shown world.new walks.new }

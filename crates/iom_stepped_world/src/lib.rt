@@ -12,15 +12,21 @@
 mod answering;
 mod begins;
 mod beside;
+mod event;
 mod fetching;
 mod loads;
 mod others;
 mod outcome;
 mod plugging;
 mod recovery;
+mod run;
+mod settling;
+mod sink;
 mod stepping;
 mod steps;
 mod world;
 
+pub use event::SteppedEvent;
 pub use outcome::SteppedOutcome;
+pub use sink::SteppedSink;
 pub use world::SteppedWorld;

@@ -5,6 +5,7 @@ ghost use Rattle.iom_stepped_world.specs.Happens.{Does};
 ghost use Rattle.iom_stepped_world.specs.Shown.{stepped_of};
 ghost use Rattle.iom_stepped_world.specs.Sound.{AreBesideWorld, AreSound};
 ghost use Rattle.iom_stepped_world.specs.Told.{told};
+ghost use Rattle.iom_walks.specs.Invariant.{AreWalks};
 
 use crate::answering::load_outcome;
 use crate::outcome::SteppedOutcome;
@@ -23,9 +24,12 @@ pub(crate) fn load<D: Disk>(world: &mut World<D>, walks: &mut Walks, id: DeviceI
     requires count { world.old.hardware.board.events + 1 < 2 ^ 64 }
     ensures does { Does (stepped_of D.shown world.old walks.old) (Load id) (told result) (stepped_of D.shown world.new walks.new) }
     ensures beside { AreBesideWorld D.shown world.new walks.new }
+    ensures walks { AreWalks walks.new }
 {
     loads_law();
     idle_law();
     walks.facts();
-    load_outcome(hardware::load(&mut world.hardware, walks, id))
+    let made = hardware::load(&mut world.hardware, walks, id);
+    walks.facts();
+    load_outcome(made)
 }

@@ -4,7 +4,7 @@ ghost use Rattle.iom_stepped_machine.specs.Machine.{Answer, Whole};
 ghost use Rattle.iom_stepped_world.specs.Happens.{Does};
 ghost use Rattle.iom_stepped_world.specs.Others.{LeavesWalks};
 ghost use Rattle.iom_stepped_world.specs.Shown.{stepped_of};
-ghost use Rattle.iom_stepped_world.specs.Sound.{AreBesideWorld, AreSound};
+ghost use Rattle.iom_stepped_world.specs.Sound.{AreBesideWorld};
 
 use iom_machine::{Event, Outcome};
 use iom_virtio_blk::Disk;
@@ -13,7 +13,7 @@ use iom_world::World;
 
 /// One of these happens, as in a world without walks. What is under way stays.
 pub(crate) fn happen<D: Disk>(world: &mut World<D>, walks: &Walks, event: &Event) -> Outcome
-    requires sound { AreSound D.shown world.old walks.now }
+    requires beside { AreBesideWorld D.shown world.old walks.now }
     requires count { world.old.hardware.board.events + 1 < 2 ^ 64 }
     requires leaves { LeavesWalks event.now }
     ensures does { Does (stepped_of D.shown world.old walks.now) (Whole event.now) (Answer result) (stepped_of D.shown world.new walks.now) }

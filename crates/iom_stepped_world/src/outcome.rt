@@ -1,6 +1,7 @@
 use iom_machine::Outcome;
 
 /// What comes of an event where walks make one load an event.
+#[derive(Drop)]
 pub enum SteppedOutcome {
     /// What comes of it where a walk is one event.
     Answer(Outcome),

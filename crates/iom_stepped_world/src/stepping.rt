@@ -6,6 +6,7 @@ ghost use Rattle.iom_stepped_world.specs.Others.{PagesFit};
 ghost use Rattle.iom_stepped_world.specs.Shown.{stepped_of};
 ghost use Rattle.iom_stepped_world.specs.Sound.{AreBesideWorld, AreSound};
 ghost use Rattle.iom_stepped_world.specs.Told.{told};
+ghost use Rattle.iom_walks.specs.Invariant.{AreWalks};
 
 use crate::begins::{read, write};
 use crate::beside::{read_through_cache, read_translated, write_through_cache, write_translated};
@@ -20,12 +21,25 @@ use iom_virtio_blk::Disk;
 use iom_walks::Walks;
 use iom_world::World;
 
-/// The event happens. What is under way has a part in these; all others happen as in a world without walks.
+/// The event happens. Afterwards one request of each device at most is under way, as before.
 pub(crate) fn take<D: Disk>(
     world: &mut World<D>,
     walks: &mut Walks,
     event: &Event,
 ) -> SteppedOutcome
+    requires sound { AreSound D.shown world.old walks.old }
+    requires count { world.old.hardware.board.events + 1 < 2 ^ 64 }
+    ensures does { Does (stepped_of D.shown world.old walks.old) (Whole event.now) (told result) (stepped_of D.shown world.new walks.new) }
+    ensures beside { AreBesideWorld D.shown world.new walks.new }
+    ensures walks { AreWalks walks.new }
+{
+    let outcome = by_event(world, walks, event);
+    walks.facts();
+    outcome
+}
+
+/// The event happens. What is under way has a part in these; all others happen as in a world without walks.
+fn by_event<D: Disk>(world: &mut World<D>, walks: &mut Walks, event: &Event) -> SteppedOutcome
     requires sound { AreSound D.shown world.old walks.old }
     requires count { world.old.hardware.board.events + 1 < 2 ^ 64 }
     ensures does { Does (stepped_of D.shown world.old walks.old) (Whole event.now) (told result) (stepped_of D.shown world.new walks.new) }

@@ -8,6 +8,7 @@ ghost use Rattle.iom_stepped_machine.specs.Machine.{Load, Whole};
 ghost use Rattle.iom_stepped_world.specs.Happens.{BeginsStepped, SteppedHappens};
 ghost use Rattle.iom_stepped_world.specs.Shown.{stepped_of};
 ghost use Rattle.iom_stepped_world.specs.Sound.{AreSound};
+ghost use Rattle.iom_stepped_world.specs.SoundIsFact.{are_sound_prop};
 ghost use Rattle.iom_stepped_world.specs.Told.{told};
 ghost use Rattle.iom_walks.specs.Walks.{under_way_of};
 
@@ -31,6 +32,7 @@ pub struct SteppedWorld<D: Disk> {
     pub world: World<D>,
     /// The requests that are under way, one of each device at most.
     pub walks: Walks,
+    ghost sound: { AreSound D.shown world walks } by { are_sound_prop D.shown world walks },
 }
 
 impl<D: Disk> SteppedWorld<D> {
@@ -43,7 +45,6 @@ impl<D: Disk> SteppedWorld<D> {
         disks: Vec<D>,
     ) -> Result<SteppedWorld<D>, MemError>
         ensures begins { IfOk result (λ new. BeginsStepped frames levels (states_of D.shown disks.items) (stepped_of D.shown new.world new.walks)) }
-        ensures sound { IfOk result (λ new. AreSound D.shown new.world new.walks) }
         ensures bad_size { (IsErrOf result BadSize) ↔ ¬ (IsMemorySize frames × IsLevels levels) }
     {
         idle_law();
@@ -63,19 +64,15 @@ impl<D: Disk> SteppedWorld<D> {
     /// give the device's request up. All else happens as [`World::step`] says. Each event is counted, and a refusal changes
     /// nothing.
     pub fn step(&mut self, event: &Event) -> SteppedOutcome
-        requires sound { AreSound D.shown self.old.world self.old.walks }
         requires count { self.old.world.hardware.board.events + 1 < 2 ^ 64 }
         ensures happens { SteppedHappens (stepped_of D.shown self.old.world self.old.walks) (Whole event.now) (told result)
             (stepped_of D.shown self.new.world self.new.walks) }
-        ensures sound { AreSound D.shown self.new.world self.new.walks }
     {
         facts_law();
         runs_law();
         names(event);
         self.walks.facts();
-        let outcome = take(&mut self.world, &mut self.walks, event);
-        self.walks.facts();
-        outcome
+        take(&mut self.world, &mut self.walks, event)
     }
 
     /// The next load of the device's request is made, from memory as it is now: of an entry of the device directory, or of a
@@ -84,18 +81,14 @@ impl<D: Disk> SteppedWorld<D> {
     /// goes into the fault queue. A block device hears of that. `NoSuchDevice` where no device has the id. It is an event,
     /// and counted.
     pub fn load(&mut self, id: DeviceId) -> SteppedOutcome
-        requires sound { AreSound D.shown self.old.world self.old.walks }
         requires count { self.old.world.hardware.board.events + 1 < 2 ^ 64 }
         ensures happens { SteppedHappens (stepped_of D.shown self.old.world self.old.walks) (Load id) (told result)
             (stepped_of D.shown self.new.world self.new.walks) }
-        ensures sound { AreSound D.shown self.new.world self.new.walks }
     {
         facts_law();
         runs_law();
         self.walks.facts();
-        let outcome = load(&mut self.world, &mut self.walks, id);
-        self.walks.facts();
-        outcome
+        load(&mut self.world, &mut self.walks, id)
     }
 
     /// Whether a request of the device is under way.

@@ -12,7 +12,7 @@ use crate::fault::TellingFault;
 use crate::teller::Teller;
 use iom_line_writer::LineWriter;
 use iom_script::{BUFFER_SIZE, LineBuffer, Script, ScriptLine, WorldSize};
-use iom_settling::{TakesEvents, settle};
+use iom_settling::settle;
 use iom_tell::ReservedFrames;
 use iom_virtio_blk::Disk;
 use iom_world::World;
@@ -73,7 +73,7 @@ fn tell_line<W: Write, D: Disk>(teller: &mut Teller<'_, W, D>, line: &ScriptLine
 {
     match line {
         ScriptLine::Event(event) => {
-            teller.take(event);
+            let _outcome = teller.tell(event);
         }
         ScriptLine::Settle => {
             let _answer = settle(teller);

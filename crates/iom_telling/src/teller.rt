@@ -123,7 +123,7 @@ fn brief(outcome: &Outcome) -> FetchReply
 
 impl<W: Write, D: Disk> Teller<'_, W, D> {
     /// One event, and its line, where nothing failed before.
-    fn tell(&mut self, event: &Event) -> Outcome
+    pub(crate) fn tell(&mut self, event: &Event) -> Outcome
         requires count { self.old.world.hardware.board.events + 1 < 2 ^ 64 }
         ensures { TellerTakes W.contents D.shown self.old event.now result self.new }
     {

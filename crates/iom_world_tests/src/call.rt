@@ -35,6 +35,8 @@ pub(crate) enum Act {
     Reset,
     Queue,
     Step,
+    /// The next load of a request that is under way, where walks make one load an event.
+    Load,
     Status,
     Commit,
     Poke,

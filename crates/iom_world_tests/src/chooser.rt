@@ -26,7 +26,7 @@ static FOR_WAITING: [Act; 6] = [
 ];
 
 /// What an outcome calls for.
-static CALLED_FOR: [(Told, Act); 27] = [
+static CALLED_FOR: [(Told, Act); 29] = [
     (Told::Stopped, Act::Restart),
     (Told::TimedOut, Act::Poll),
     (Told::Did(CommandName::IofenceC), Act::Poll),
@@ -62,6 +62,8 @@ static CALLED_FOR: [(Told, Act); 27] = [
         Told::AnsweredFault(Cause::TransactionTypeDisallowed),
         Act::Deliver,
     ),
+    (Told::Walking, Act::Load),
+    (Told::Loaded, Act::Load),
     (Told::Waiting, Act::Commit),
     (Told::Accepted, Act::Commit),
     (Told::Read, Act::Step),
@@ -191,9 +193,21 @@ impl Chooser {
         call_of(&mut self.draw, act, shown)
     }
 
+    /// A load of the request that began first of those that are under way; of any device, where none is.
+    fn load(&mut self, knows: &Knows, shown: Seen) -> Call {
+        let mut call = call_of(&mut self.draw, Act::Load, shown);
+        if let Some(walk) = knows.walks.first() {
+            call.device = walk.call.device;
+        }
+        call
+    }
+
     /// The next event.
     fn choose(&mut self, knows: &Knows) -> Call {
         let shown = shown_of(knows);
+        if knows.is_stepped && self.draw.one_in(4) {
+            return self.load(knows, shown);
+        }
         if !self.is_strict && self.draw.one_in(8) {
             let act = act(&mut self.draw);
             return call_of(&mut self.draw, act, shown);

@@ -6,7 +6,7 @@ use crate::judge::Rule;
 use crate::met::Row;
 use crate::parts::Burst;
 use crate::run::Run;
-use crate::wanted::first_missing;
+use crate::wanted::{first_missing, first_missing_of_loads};
 use std::alloc::Global;
 use std::test::Fail;
 
@@ -27,14 +27,19 @@ fn beginning(seed: u64) -> Burst {
 }
 
 /// The rule that the run of the seed breaks first, if it breaks one. What it meets is noted.
-fn broken_by(alloc: Global, seed: u64, met: &mut Vec<Row>) -> Result<Option<Rule>, Fail> {
+fn broken_by(
+    alloc: Global,
+    seed: u64,
+    is_stepped: bool,
+    met: &mut Vec<Row>,
+) -> Result<Option<Rule>, Fail> {
     let (levels, wide) = match seed % 3 {
         0 => (1, 0x80),
         1 => (2, 0x1_0000),
         _ => (3, 0x100_0000),
     };
     let burst = beginning(seed);
-    let mut run = Run::new(alloc, levels, wide, burst == Burst::Crowded)?;
+    let mut run = Run::new(alloc, levels, wide, burst == Burst::Crowded, is_stepped)?;
     let mut chooser = Chooser::new(seed, burst, seed % 8 == 3, shown_of(&run.knows));
     for number in 0..EVENTS {
         let call = chooser.next(&run.knows);
@@ -46,9 +51,13 @@ fn broken_by(alloc: Global, seed: u64, met: &mut Vec<Row>) -> Result<Option<Rule
 }
 
 /// The first seed whose run breaks a rule, and the rule.
-fn first_broken(alloc: Global, met: &mut Vec<Row>) -> Result<Option<(u64, Rule)>, Fail> {
+fn first_broken(
+    alloc: Global,
+    is_stepped: bool,
+    met: &mut Vec<Row>,
+) -> Result<Option<(u64, Rule)>, Fail> {
     for seed in 1..LAST_SEED + 1 {
-        if let Some(rule) = broken_by(alloc, seed, met)? {
+        if let Some(rule) = broken_by(alloc, seed, is_stepped, met)? {
             return Ok(Some((seed, rule)));
         }
     }
@@ -58,7 +67,19 @@ fn first_broken(alloc: Global, met: &mut Vec<Row>) -> Result<Option<(u64, Rule)>
 #[test]
 fn each_run_keeps_the_rules_and_all_is_met(rt: HostRuntime) -> Result<(), Fail> {
     let mut met = Vec::new(rt.alloc());
-    assert_eq!(rt; first_broken(rt.alloc(), &mut met)?, None);
+    assert_eq!(rt; first_broken(rt.alloc(), false, &mut met)?, None);
     assert_eq!(rt; first_missing(&met), None, "the row of what has to be met");
+    Ok(())
+}
+
+#[test]
+fn each_run_of_single_loads_keeps_the_rules(rt: HostRuntime) -> Result<(), Fail> {
+    let mut met = Vec::new(rt.alloc());
+    assert_eq!(rt; first_broken(rt.alloc(), true, &mut met)?, None);
+    assert_eq!(rt;
+        first_missing_of_loads(&met),
+        None,
+        "the row of what has to be met"
+    );
     Ok(())
 }

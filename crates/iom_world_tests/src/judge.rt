@@ -1,7 +1,7 @@
 // Whether what came of an event may come of it, by what the test knows.
 
 use crate::call::{Act, Call};
-use crate::flights::{Flying, MOST_IN_FLIGHT, flights_of};
+use crate::flights::{Flying, flights_of};
 use crate::history::{Right, Tie, has, kind_of, standing_of};
 use crate::knows::Knows;
 use crate::messages::{MOST_MESSAGES, Message, What};
@@ -9,6 +9,7 @@ use crate::reply::{Heard, Told};
 use crate::rules::{
     accepting, is_fault_of_translated, may_answer, may_fault, may_fault_somewhere, right_for,
 };
+use crate::walks::{is_full, may_load};
 use iom_base::{AccessKind, DeviceKind, Refusal};
 use iom_inflight::MadeAt;
 
@@ -22,6 +23,8 @@ pub(crate) enum Rule {
     Reply,
     /// A step of a block device is.
     Step,
+    /// A load is.
+    Load,
     /// A question is.
     Answer,
     /// Another message that arrives is.
@@ -62,8 +65,12 @@ fn can_send(kind: DeviceKind, act: Act) -> bool {
 /// Whether the request of a device that can send it, with a lawful span, may be answered so.
 fn may_reply_in_page(knows: &Knows, call: Call, heard: Heard) -> bool {
     let flights = flights_of(&knows.flights, call.device);
-    if flights.waiting >= MOST_IN_FLIGHT {
+    if is_full(knows, call.device) {
         return heard.reply == Told::Busy;
+    }
+    let walks = knows.is_stepped && matches!(call.act, Act::Read | Act::Write);
+    if walks && knows.walk(call.device).is_some() {
+        return heard.reply == Told::Occupied;
     }
     let is_translated = matches!(call.act, Act::ReadTranslated | Act::WriteTranslated);
     match heard.reply {
@@ -73,6 +80,7 @@ fn may_reply_in_page(knows: &Knows, call: Call, heard: Heard) -> bool {
                 && heard.number == flights.accepted.wrapping_add(1)
         }
         Told::Fault(cause) => may_fault(knows, call, cause),
+        Told::Walking => walks,
         Told::Miss => matches!(call.act, Act::ReadThroughCache | Act::WriteThroughCache),
         _ => false,
     }
@@ -98,12 +106,16 @@ fn may_step(knows: &Knows, call: Call, heard: Heard) -> bool {
         return heard.reply == Told::Refused(Refusal::NoSuchDevice);
     };
     let flights = flights_of(&knows.flights, call.device);
-    let is_full = flights.waiting >= MOST_IN_FLIGHT;
+    let is_full = is_full(knows, call.device);
+    if knows.walk(call.device).is_some() && kind.is_block_device() {
+        return heard.reply == Told::Waiting;
+    }
     match heard.reply {
         Told::Refused(why) => why == Refusal::WrongKind && !kind.is_block_device(),
         _ if !kind.is_block_device() => false,
         Told::Accepted => !is_full && heard.number == flights.accepted.wrapping_add(1),
         Told::Busy => is_full,
+        Told::Walking => knows.is_stepped && !kind.has_cache() && !is_full,
         Told::Fault(cause) if kind.has_cache() => {
             !is_full && is_fault_of_translated(knows, call, cause)
         }
@@ -298,6 +310,7 @@ pub(crate) fn judge(knows: &Knows, call: Call, heard: Heard) -> (Rule, bool) {
         | Act::ReadThroughCache
         | Act::WriteThroughCache => (Rule::Reply, may_reply(knows, call, heard)),
         Act::Step => (Rule::Step, may_step(knows, call, heard)),
+        Act::Load => (Rule::Load, may_load(knows, call, heard)),
         Act::Ask | Act::Forge | Act::Deliver | Act::Drop | Act::Repeat => {
             judge_message(knows, call, heard)
         }

@@ -6,6 +6,7 @@ use crate::history::{Entry, Right, Which, frames};
 use crate::messages::{Message, What, send};
 use crate::reply::{Heard, Told};
 use crate::rules::accepting;
+use crate::walks::{Walk, begin_anew, gives_up, walk_of};
 use iom_base::{AccessKind, Cause, DeviceId};
 use iom_machine::CommandName;
 use std::alloc::{AllocError, Global};
@@ -34,10 +35,13 @@ pub(crate) struct Knows {
     pub(crate) wide: DeviceId,
     /// Whether tables may come to be in the frames that are granted.
     pub(crate) is_crowded: bool,
+    /// Whether walks make one load an event, and those that are under way.
+    pub(crate) is_stepped: bool,
+    pub(crate) walks: Vec<Walk>,
 }
 
 impl Knows {
-    pub(crate) fn new(alloc: Global, wide: DeviceId, is_crowded: bool) -> Knows {
+    pub(crate) fn new(alloc: Global, wide: DeviceId, is_crowded: bool, is_stepped: bool) -> Knows {
         Knows {
             entries: Vec::new(alloc),
             flights: Vec::new(alloc),
@@ -50,6 +54,8 @@ impl Knows {
             confirmed: 0,
             wide,
             is_crowded,
+            is_stepped,
+            walks: Vec::new(alloc),
         }
     }
 
@@ -101,6 +107,43 @@ impl Knows {
         };
         self.flights.push(flying)?;
         Ok(())
+    }
+
+    /// The walk of the device that is under way.
+    pub(crate) fn walk(&self, device: DeviceId) -> Option<Walk> {
+        walk_of(&self.walks, device)
+    }
+
+    /// What a load of the device's request left of that.
+    fn keep_load(&mut self, device: DeviceId, reply: Told) -> Result<(), AllocError> {
+        let Some(walk) = self.walk(device) else {
+            return Ok(());
+        };
+        self.walks.retain(|other| other.call.device != device);
+        match reply {
+            Told::Loaded => {
+                let loads = walk.loads.wrapping_add(1);
+                self.walks.push(Walk { loads, ..walk })?;
+                Ok(())
+            }
+            Told::Accepted => self.keep_flying(walk.call),
+            _ => Ok(()),
+        }
+    }
+
+    /// Which walks are left, and which begin anew.
+    fn keep_walks(&mut self, call: Call, reply: Told) {
+        if gives_up(self, call, reply) {
+            self.walks.retain(|other| other.call.device != call.device);
+        }
+        if matches!(
+            reply,
+            Told::Did(
+                CommandName::IotinvalVma | CommandName::IotinvalGvma | CommandName::IodirInvalDdt
+            )
+        ) {
+            begin_anew(&mut self.walks);
+        }
     }
 
     /// A request to invalidate is opened, and sent where there is room.
@@ -193,7 +236,13 @@ impl Knows {
     /// What came of the call is known from now on.
     pub(crate) fn keep(&mut self, call: Call, heard: Heard) -> Result<(), AllocError> {
         self.keep_looks(heard);
+        self.keep_walks(call, heard.reply);
         match (call.act, heard.reply) {
+            (Act::Load, reply) => self.keep_load(call.device, reply),
+            (_, Told::Walking) => {
+                self.walks.push(Walk { call, loads: 0 })?;
+                Ok(())
+            }
             (Act::Restart, Told::Done) => {
                 self.open.clear();
                 Ok(())

@@ -10,7 +10,8 @@
 //! a list of entries that it reads off the outcomes (`history`), and from it alone decides which frames a device may reach.
 //! Each access that a commit makes has to be on such a frame, and on one on which it may have been accepted; the bytes of
 //! all frames that are granted are read after it, and are as they have to be. Each reply to a request and each answer to a
-//! question has to be one that `rules` allows. What was met is noted (`met`), and `wanted` says what has to be.
+//! question has to be one that `rules` allows. Half of the runs are of worlds whose walks make one load an event (`walks`);
+//! there it is judged at the event that answers. What was met is noted (`met`), and `wanted` says what has to be.
 #![tactic(auto)]
 
 #[cfg(test)]
@@ -42,6 +43,8 @@ mod messages;
 #[cfg(test)]
 mod met;
 #[cfg(test)]
+mod pace;
+#[cfg(test)]
 mod parts;
 #[cfg(test)]
 mod reply;
@@ -49,5 +52,7 @@ mod reply;
 mod rules;
 #[cfg(test)]
 mod run;
+#[cfg(test)]
+mod walks;
 #[cfg(test)]
 mod wanted;

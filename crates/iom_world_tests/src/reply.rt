@@ -4,6 +4,7 @@ use crate::messages::What;
 use iom_base::{AccessKind, Cause, DeviceKind, Mode, Refusal};
 use iom_fabric::Translation;
 use iom_machine::{BlockStep, CommandName, Fetched, Outcome};
+use iom_stepped_world::SteppedOutcome;
 use iom_virtqueue::ChainFault;
 
 /// What comes of an event, by its kind; and what no outcome shows by itself.
@@ -23,6 +24,11 @@ pub(crate) enum Told {
     TimedOut,
     NoEffect,
     Accepted,
+    /// A request is under way from now on; one was, and nothing of this one is kept; a load was made, and it goes on; there is none.
+    Walking,
+    Occupied,
+    Loaded,
+    NoWalk,
     Busy,
     BadSpan,
     Fault(Cause),
@@ -182,7 +188,23 @@ fn number_of(outcome: &Outcome) -> u64 {
     }
 }
 
-pub(crate) fn heard_of(outcome: &Outcome) -> Heard {
+/// What comes of an event where a walk may make one load an event.
+pub(crate) fn heard_of(outcome: &SteppedOutcome) -> Heard {
+    let reply = match outcome {
+        SteppedOutcome::Answer(outcome) => return heard_whole(outcome),
+        SteppedOutcome::Walking => Told::Walking,
+        SteppedOutcome::Occupied => Told::Occupied,
+        SteppedOutcome::Loaded => Told::Loaded,
+        SteppedOutcome::NoWalk => Told::NoWalk,
+    };
+    Heard {
+        reply,
+        number: 0,
+        last: 0,
+    }
+}
+
+fn heard_whole(outcome: &Outcome) -> Heard {
     let last = match outcome {
         Outcome::Confirmed { last, .. } => u64::from(*last),
         _ => 0,

@@ -7,17 +7,16 @@ use crate::history::has;
 use crate::judge::{Rule, judge, judge_commit};
 use crate::knows::Knows;
 use crate::met::{Row, meet_all};
+use crate::pace::Paced;
 use crate::reply::{Heard, Told, heard_of};
 use iom_base::{AccessKind, DeviceId, Refusal};
 use iom_inflight::MadeAt;
 use iom_machine::{Event, Outcome};
+use iom_stepped_world::{SteppedOutcome, SteppedWorld};
 use iom_virtio_blk::MemoryDisk;
 use iom_world::World;
 use std::alloc::{AllocError, Global};
 use std::test::Fail;
-
-/// A run has far fewer events than this, those included by which the test looks.
-const MOST_EVENTS: u64 = 10_000_000;
 
 /// How many disks there are.
 pub(crate) const DISKS: u64 = 12;
@@ -26,7 +25,7 @@ pub(crate) const DISKS: u64 = 12;
 #[derive(Drop)]
 pub(crate) struct Run {
     alloc: Global,
-    world: Box<World<MemoryDisk>>,
+    world: Paced,
     pub(crate) knows: Box<Knows>,
     /// The bytes that the frames that are granted have to have.
     bytes: Vec<u8>,
@@ -49,20 +48,26 @@ fn disks(alloc: Global) -> Result<Vec<MemoryDisk>, AllocError> {
     Ok(disks)
 }
 
-fn step(world: &mut World<MemoryDisk>, event: &Event) -> Outcome {
-    if world.events() < MOST_EVENTS {
-        world.step(event)
-    } else {
-        Outcome::NothingInFlight
+/// A world to which nothing has happened, with so many levels of the directory.
+fn world_of(alloc: Global, levels: u8, is_stepped: bool) -> Result<Paced, Fail> {
+    let disks = disks(alloc)?;
+    if is_stepped {
+        let stepped = SteppedWorld::new(alloc, 64, levels, disks)?;
+        return Ok(Paced::Stepped(Box::new(alloc, stepped)?));
     }
+    let world = World::new(alloc, 64, levels, disks)?;
+    Ok(Paced::Whole(Box::new(alloc, world)?))
 }
 
 /// The bytes of all frames that are granted.
-fn look(alloc: Global, world: &mut World<MemoryDisk>) -> Result<Vec<u8>, AllocError> {
+fn look(alloc: Global, world: &mut Paced) -> Result<Vec<u8>, AllocError> {
     let mut all = Vec::new(alloc);
     for place in 0..FRAMES {
         let address = (FIRST_FRAME + place) * 4096;
-        if let Outcome::Bytes(bytes) = step(world, &Event::Peek { address, len: 4096 }) {
+        if let SteppedOutcome::Answer(Outcome::Bytes(bytes)) = world.step(&Event::Peek {
+            address,
+            len: 4096,
+        }) {
             all.extend_from_slice(bytes.as_slice())?;
         }
     }
@@ -76,13 +81,14 @@ impl Run {
         levels: u8,
         wide: DeviceId,
         is_crowded: bool,
+        is_stepped: bool,
     ) -> Result<Run, Fail> {
-        let mut world = Box::new(alloc, World::new(alloc, 64, levels, disks(alloc)?)?)?;
+        let mut world = world_of(alloc, levels, is_stepped)?;
         let bytes = look(alloc, &mut world)?;
         Ok(Run {
             alloc,
             world,
-            knows: Box::new(alloc, Knows::new(alloc, wide, is_crowded))?,
+            knows: Box::new(alloc, Knows::new(alloc, wide, is_crowded, is_stepped))?,
             bytes,
             broken: None,
         })
@@ -110,10 +116,10 @@ impl Run {
         &mut self,
         call: Call,
         made: MadeAt,
-        outcome: &Outcome,
+        outcome: &SteppedOutcome,
     ) -> Result<(), AllocError> {
         let first = index_of(u64::from(made.frame), u64::from(made.offset));
-        if let Outcome::Read(given) = outcome {
+        if let SteppedOutcome::Answer(Outcome::Read(given)) = outcome {
             let is_right = given.len() == usize::from(made.len)
                 && gives(&self.bytes, first, given.as_slice());
             self.expect(Rule::Bytes, is_right);
@@ -137,7 +143,7 @@ impl Run {
         let event = Event::Commit {
             device: call.device,
         };
-        let outcome = step(&mut self.world, &event);
+        let outcome = self.world.step(&event);
         let heard = heard_of(&outcome);
         let (rule, holds) = judge_commit(&self.knows, call, oldest, heard);
         self.expect(rule, holds);
@@ -152,8 +158,11 @@ impl Run {
 
     /// The event happens, and this comes of it.
     fn take(&mut self, call: Call) -> Result<Heard, AllocError> {
+        if call.act == Act::Load {
+            return Ok(heard_of(&self.world.load(call.device)));
+        }
         let event = event_of(self.alloc, call)?;
-        Ok(heard_of(&step(&mut self.world, &event)))
+        Ok(heard_of(&self.world.step(&event)))
     }
 
     /// An event that isn't a commit happens.
@@ -192,8 +201,7 @@ impl Run {
 
     /// The world settles in 400 events at most; then a frame is free where nobody holds it, and else isn't.
     pub(crate) fn end(&mut self, last: Call) -> Result<(), AllocError> {
-        let settled = self.world.events() < MOST_EVENTS
-            && self.world.settle().is_ok_and(|count| count <= 400);
+        let settled = self.world.settles();
         self.expect(Rule::Settle, settled);
         let held = self.knows.reached_by_any(false);
         let mut free = last;

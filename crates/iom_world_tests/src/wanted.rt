@@ -334,13 +334,50 @@ static WANTED: [(Act, Told); 215] = [
     ),
 ];
 
-/// The first row, counted from 0, that wasn't met.
-pub(crate) fn first_missing(met: &[Row]) -> Option<usize> {
-    for row in 0..WANTED.len() {
-        let (act, reply) = WANTED[row];
+/// What runs have to meet besides in which walks make one load an event.
+static LOADS: [(Act, Told); 20] = [
+    (Act::Read, Told::Walking),
+    (Act::Read, Told::Occupied),
+    (Act::Read, Told::Accepted),
+    (Act::Read, Told::Busy),
+    (Act::Write, Told::Walking),
+    (Act::Write, Told::Occupied),
+    (Act::Step, Told::Walking),
+    (Act::Step, Told::Waiting),
+    (Act::Load, Told::Loaded),
+    (Act::Load, Told::NoWalk),
+    (Act::Load, Told::Accepted),
+    (Act::Load, Told::Fault(Cause::ReadPageFault)),
+    (Act::Load, Told::Fault(Cause::WritePageFault)),
+    (Act::Load, Told::Fault(Cause::ReadGuestPageFault)),
+    (Act::Load, Told::Fault(Cause::WriteGuestPageFault)),
+    (Act::Load, Told::Fault(Cause::DirectoryEntryNotValid)),
+    (Act::Load, Told::Refused(Refusal::NoSuchDevice)),
+    (
+        Act::ReadTranslated,
+        Told::Fault(Cause::TransactionTypeDisallowed),
+    ),
+    (Act::Commit, Told::Read),
+    (Act::Commit, Told::Wrote),
+];
+
+/// The first of these rows, counted from 0, that wasn't met.
+fn first_of(wanted: &[Row], met: &[Row]) -> Option<usize> {
+    for row in 0..wanted.len() {
+        let (act, reply) = wanted[row];
         if !has_met(met, act, reply) {
             return Some(row);
         }
     }
     None
+}
+
+/// The first row, counted from 0, that runs didn't meet.
+pub(crate) fn first_missing(met: &[Row]) -> Option<usize> {
+    first_of(&WANTED, met)
+}
+
+/// The same of runs in which walks make one load an event.
+pub(crate) fn first_missing_of_loads(met: &[Row]) -> Option<usize> {
+    first_of(&LOADS, met)
 }

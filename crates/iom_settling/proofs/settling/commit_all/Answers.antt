@@ -8,6 +8,7 @@ loop-device-init g c = commits_begin g.T.TakesEvents.parts g.T.TakesEvents.count
 
 pub take-requires : goal.take-requires
 take-requires g c = record {
+  settling = tt;
   count = commits_room g.T.TakesEvents.parts g.T.TakesEvents.counted g.T.TakesEvents.happens (record { effect = g.met.T.TakesEvents.effect; commands = g.met.T.TakesEvents.commands; counts = g.met.T.TakesEvents.counts; invariants = g.met.T.TakesEvents.invariants; own = g.met.T.TakesEvents.own }) _ _ _ c.in-Some.device c.loop-device.invariant c.requires.count c.facts-in-Some.ensures.flights (sym c.first_busy.ensures ∙ c.in-Some.is);
 }
 

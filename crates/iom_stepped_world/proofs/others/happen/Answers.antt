@@ -16,4 +16,4 @@ returns-clause-does g c =
 
 pub returns-clause-beside : goal.returns-clause-beside
 returns-clause-beside g c =
-    beside_left g.D.Disk.shown c.args.world.now c.step.new.self c.args.walks.now c.args.event.now c.step.result c.requires.leaves c.requires.sound.beside c.step.ensures.happens
+    beside_left g.D.Disk.shown c.args.world.now c.step.new.self c.args.walks.now c.args.event.now c.step.result c.requires.leaves c.requires.beside c.step.ensures.happens

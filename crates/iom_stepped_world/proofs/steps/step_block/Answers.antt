@@ -23,7 +23,7 @@ invariant_of-world g c =
     let new = shown_after g.D.Disk.shown c.step.new.hardware (state_of world.driver) c.step.new.walks in
     record {
       invariants = at_count (with_driver board (state_of world.driver)) (world.hardware.board.events + 1) board.events c.step.ensures.counted.events
-          (steps_well c.laws_below.ensures c.begins_law.ensures c.idle_law.ensures.facts world.driver old new c.args.id refl (driver_invariant world.driver) c.requires.sound.invariant c.requires.sound.beside refl
+          (steps_well c.laws_below.ensures c.begins_law.ensures c.idle_law.ensures.facts world.driver old new c.args.id refl (driver_invariant world.driver) world.invariants c.requires.sound.invariant c.requires.sound.beside refl
           (there_able g.D.Disk.shown world.hardware (hardware_invariant world) c.args.id) c.step.result c.step.ensures.steps).2;
       agrees = c.step.ensures.invariants.agrees;
       room = c.step.ensures.invariants.room;
@@ -38,10 +38,10 @@ returns-clause-does g c =
       before = world.invariants;
       after =
           at_count new.world.parts (world.hardware.board.events + 1) new.world.events c.step.ensures.counted.events
-          (steps_well c.laws_below.ensures c.begins_law.ensures c.idle_law.ensures.facts world.driver old new c.args.id refl (driver_invariant world.driver) c.requires.sound.invariant c.requires.sound.beside refl
+          (steps_well c.laws_below.ensures c.begins_law.ensures c.idle_law.ensures.facts world.driver old new c.args.id refl (driver_invariant world.driver) world.invariants c.requires.sound.invariant c.requires.sound.beside refl
           (there_able g.D.Disk.shown world.hardware (hardware_invariant world) c.args.id) c.step.result c.step.ensures.steps).2;
       counted = c.step.ensures.counted.events;
     } in
     subst (λ o. Does old (Whole (events.Step c.args.id)) o new) (sym c.step_outcome.ensures)
-    (step_does c.laws_below.ensures c.begins_law.ensures c.idle_law.ensures.facts world.driver old new c.args.id refl (driver_invariant world.driver) c.requires.sound.invariant c.requires.sound.beside refl
+    (step_does c.laws_below.ensures c.begins_law.ensures c.idle_law.ensures.facts world.driver old new c.args.id refl (driver_invariant world.driver) world.invariants c.requires.sound.invariant c.requires.sound.beside refl
     (there_able g.D.Disk.shown world.hardware (hardware_invariant world) c.args.id) c.step.result around c.step.ensures.counted.disks c.step.ensures.steps)

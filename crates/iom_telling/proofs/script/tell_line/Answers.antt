@@ -7,11 +7,11 @@ use Rattle.iom_telling.proofs.script.tell_line.Goals as goal
 
 pub returns-in-Event-clause-told : goal.returns-in-Event-clause-told
 returns-in-Event-clause-told g c =
-    subst (λ (l : ScriptLine). GoesByLine g.W.Write.contents g.D.Disk.shown c.args.teller.now l c.take.new.self) (sym c.in-Event.is)
-    (event_told g.W.Write.contents g.D.Disk.shown c.args.teller.now c.take.new.self c.in-Event.event c.take.ensures.0 c.take.ensures.1)
+    subst (λ (l : ScriptLine). GoesByLine g.W.Write.contents g.D.Disk.shown c.args.teller.now l c.tell-outcome.new.self) (sym c.in-Event.is)
+    (event_told g.W.Write.contents g.D.Disk.shown c.args.teller.now c.tell-outcome.new.self c.in-Event.event c.tell-outcome.result c.tell-outcome.ensures)
 
 pub returns-in-Event-clause-counted : goal.returns-in-Event-clause-counted
-returns-in-Event-clause-counted g c = let one = c.take.ensures.1.happens.events in omega (arith, one)
+returns-in-Event-clause-counted g c = let one = c.tell-outcome.ensures.happens.events in omega (arith, one)
 
 pub returns-in-Settle-clause-told : goal.returns-in-Settle-clause-told
 returns-in-Settle-clause-told g c =

@@ -5,7 +5,7 @@ use Rattle.iom_stepped_machine.specs.Machine.{Whole}
 use Rattle.iom_stepped_world.specs.Happens.{Does}
 use Rattle.iom_stepped_world.specs.Shown.{stepped_of}
 use Rattle.iom_stepped_world.specs.Told.{told}
-use Rattle.iom_stepped_world.proofs.stepping.take.Goals as goal
+use Rattle.iom_stepped_world.proofs.stepping.by_event.Goals as goal
 
 pub returns-in-Read-clause-does : goal.returns-in-Read-clause-does
 returns-in-Read-clause-does g c =
