@@ -240,7 +240,11 @@ impl Knows {
         match (call.act, heard.reply) {
             (Act::Load, reply) => self.keep_load(call.device, reply),
             (_, Told::Walking) => {
-                self.walks.push(Walk { call, loads: 0 })?;
+                self.walks.push(Walk {
+                    call,
+                    loads: 0,
+                    is_anew: false,
+                })?;
                 Ok(())
             }
             (Act::Restart, Told::Done) => {

@@ -6,6 +6,7 @@ use crate::judge::MOST_TICKETS;
 use crate::knows::{Knows, MOST_RECORDS};
 use crate::messages::{MOST_MESSAGES, Message};
 use crate::reply::{Heard, Told};
+use crate::walks::under_walks;
 use iom_machine::CommandName;
 use std::alloc::AllocError;
 
@@ -48,6 +49,9 @@ pub(crate) fn meet_all(
     heard: Heard,
 ) -> Result<(), AllocError> {
     if let Some(reply) = beside(knows, call, heard) {
+        meet(met, call.act, reply)?;
+    }
+    if let Some(reply) = under_walks(knows, call, heard.reply) {
         meet(met, call.act, reply)?;
     }
     if heard.reply == Told::TimedOut {

@@ -71,6 +71,12 @@ pub(crate) enum Told {
     ForgedTrue,
     /// The fence was given up while such a message was under way.
     Under(What),
+    /// The command was done while a walk was under way.
+    DidUnder(CommandName),
+    /// The page was released, or the device quarantined or detached, under a walk of the device.
+    UnderWalk,
+    /// The walk that ended had begun anew.
+    EndedAnew,
     /// The access that was made is one of a device of this kind that is attached in this mode.
     Made(DeviceKind, Mode),
 }

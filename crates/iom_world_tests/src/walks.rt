@@ -18,6 +18,8 @@ pub(crate) struct Walk {
     pub(crate) call: Call,
     /// How many loads it made since it began, or began anew.
     pub(crate) loads: u64,
+    /// Whether it began anew.
+    pub(crate) is_anew: bool,
 }
 
 pub(crate) fn walk_of(walks: &[Walk], device: DeviceId) -> Option<Walk> {
@@ -33,6 +35,7 @@ pub(crate) fn walk_of(walks: &[Walk], device: DeviceId) -> Option<Walk> {
 pub(crate) fn begin_anew(walks: &mut [Walk]) {
     for walk in walks.iter_mut() {
         walk.loads = 0;
+        walk.is_anew = true;
     }
 }
 
@@ -45,6 +48,24 @@ pub(crate) fn gives_up(knows: &Knows, call: Call, reply: Told) -> bool {
             None => false,
         },
         _ => false,
+    }
+}
+
+/// What the outcome doesn't show of the walks that are under way, if there is something; before it is known.
+pub(crate) fn under_walks(knows: &Knows, call: Call, reply: Told) -> Option<Told> {
+    match (call.act, reply) {
+        (Act::Fetch, Told::Did(name)) if !knows.walks.is_empty() => Some(Told::DidUnder(name)),
+        (Act::Release | Act::Quarantine | Act::Detach, Told::Ticket) => match knows.walk(
+            call.device,
+        ) {
+            Some(_) => Some(Told::UnderWalk),
+            None => None,
+        },
+        (Act::Load, Told::Accepted) => match knows.walk(call.device) {
+            Some(walk) if walk.is_anew => Some(Told::EndedAnew),
+            _ => None,
+        },
+        _ => None,
     }
 }
 

@@ -335,7 +335,7 @@ static WANTED: [(Act, Told); 215] = [
 ];
 
 /// What runs have to meet besides in which walks make one load an event.
-static LOADS: [(Act, Told); 20] = [
+static LOADS: [(Act, Told); 27] = [
     (Act::Read, Told::Walking),
     (Act::Read, Told::Occupied),
     (Act::Read, Told::Accepted),
@@ -359,6 +359,13 @@ static LOADS: [(Act, Told); 20] = [
     ),
     (Act::Commit, Told::Read),
     (Act::Commit, Told::Wrote),
+    (Act::Fetch, Told::DidUnder(CommandName::IotinvalVma)),
+    (Act::Fetch, Told::DidUnder(CommandName::IotinvalGvma)),
+    (Act::Fetch, Told::DidUnder(CommandName::IodirInvalDdt)),
+    (Act::Release, Told::UnderWalk),
+    (Act::Quarantine, Told::UnderWalk),
+    (Act::Detach, Told::UnderWalk),
+    (Act::Load, Told::EndedAnew),
 ];
 
 /// The first of these rows, counted from 0, that wasn't met.
